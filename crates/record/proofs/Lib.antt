@@ -1,0 +1,13 @@
+pub mod Spelled
+pub mod Readings
+pub mod FieldsBack
+pub mod SlotsBack
+pub mod Maps
+pub mod Lowest
+pub mod BlocksBack
+pub mod OneRecord
+pub mod Filled
+pub mod Gathered
+pub mod Whole
+pub mod Refilled
+pub mod HandedOut
