@@ -1,0 +1,3 @@
+pub mod Appended
+pub mod Lengths
+pub mod Written

@@ -1,0 +1,3 @@
+// Writes the record of a design.
+mod page;
+pub mod write;
