@@ -83,8 +83,8 @@ module _ (n : Netlist) (h : lawful n ≡ true) where
   net_at : (i : ℕ) → i < length n.nets → net_lawful (modules n) (net n i) ≡ true
   net_at i l = every_at (net_lawful (modules n)) n.nets all.nets i no_net l
 
-  pub rules : Rules n
-  rules =
+  pub keeps_rules : Rules n
+  keeps_rules =
       let t = all.terms in
       record {
         cycle_time = (grind (arith, nat_tests), grind (arith, nat_tests));

@@ -10,7 +10,7 @@ pub loop-i-preserved : goal.loop-i-preserved
 loop-i-preserved c =
     let map = c.args.map in
     let i = c.loop-i.i in
-    let own = c.loop-i.own_val in
+    let own = c.loop-i.own in
     elim c.if-not-stands.branch [
       | then-not-stands w ↦
           let b : bit map i ≡ false = sym c.stands.ensures ∙ w.if-not-stands.true in (
@@ -26,5 +26,5 @@ loop-i-preserved c =
 
 pub returns : goal.returns
 returns c =
-    let e = clear_done no_choice c.args.map c.loop-i.i c.loop-i.own_val (omega arith) in
+    let e = clear_done no_choice c.args.map c.loop-i.i c.loop-i.own (omega arith) in
     ap (λ cs. record { map = c.args.map; choices = cs }) (sym e ∙ c.loop-i.invariant.1)

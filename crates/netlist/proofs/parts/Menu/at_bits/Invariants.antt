@@ -6,4 +6,4 @@ use Rattle.netlist.proofs.parts.Menu.at_bits.Given as goal
 
 abbrev pub invariant-loop-i : goal.invariant-loop-i
 invariant-loop-i l =
-    (length l.own_val ≡ 8) × (cleared_from no_choice l.map l.i l.own_val ≡ cleared no_choice l.map 0 l.choices)
+    (length l.own ≡ 8) × (cleared_from no_choice l.map l.i l.own ≡ cleared no_choice l.map 0 l.choices)

@@ -4,5 +4,5 @@ use Rattle.netlist.proofs.table.NetTable.new.Goals as goal
 
 pub returns : goal.returns
 returns c =
-    let made = c.in-ok-new.ensures in
+    let made = c.in_ok-new.ensures in
     (search rules, search rules, index_none _ _ _ (search rules) made.0 made.2)

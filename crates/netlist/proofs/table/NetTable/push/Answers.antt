@@ -18,5 +18,5 @@ returns c =
     record {
       items = search rules;
       room = search rules;
-      index = rw c.push-reserved.ensures.items (index_push _ _ _ c.requires.index c.args.net _ _ _ c.requires.below (omega arith) a.nets a.size a.first);
+      index = rw c.push_reserved.ensures.items (index_push _ _ _ c.requires.index c.args.net _ _ _ c.requires.below (omega arith) a.nets a.size a.first);
     }

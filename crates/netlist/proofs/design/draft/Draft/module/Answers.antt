@@ -8,14 +8,18 @@ use Rattle.netlist.specs.declared.parts.Menu.{Menu}
 use Rattle.netlist.proofs.Kept.{lawful_module}
 use Rattle.netlist.proofs.design.draft.Draft.module.Goals as goal
 
-pub invariant-of-self : goal.invariant-of-self
-invariant-of-self c =
+pub invariant_of-self : goal.invariant_of-self
+invariant_of-self c =
     let s = c.args.self.now in
     let n = drawn s in
     let F : List Menu → Type 0 = λ ms. lawful (netlist n.terms n.supplies ms n.nets) ≡ true in
     let a : names_supplies n.supplies.map c.args.map ≡ true = grind (arith, nat_tests) in
     let k = lawful_module n c.args.map c.args.choices.now s.design.ok (omega arith) (search rules) (search rules) a (omega arith) in
     let m = menu_of c.args.map c.args.choices.now in
-    let e : vec_items c.push-reserved.new.self ≡ n.menus ++ m ∷ [] =
-    c.push-reserved.ensures.items ∙ ap (λ x. n.menus ++ x ∷ []) c.at-bits.ensures in
-    (search rules, (subst⁻¹ F {x = vec_items c.push-reserved.new.self} {y = n.menus ++ m ∷ []} e k, (s.design.index, tt)))
+    let e : vec_items c.push_reserved.new.self ≡ n.menus ++ m ∷ [] =
+    c.push_reserved.ensures.items ∙ ap (λ x. n.menus ++ x ∷ []) c.at_bits.ensures in
+    record {
+      room = search rules;
+      ok = subst⁻¹ F {x = vec_items c.push_reserved.new.self} {y = n.menus ++ m ∷ []} e k;
+      index = s.design.index;
+    }
