@@ -2,7 +2,7 @@
 use Rattle.std.proofs.Common.{◌≡◌, ℕ, zero, suc, ◌+◌, ◌-◌, ◌*◌, ◌<◌, ◌≤◌, max, Bool, true, false, cond, ltb, leb, ◌⊎◌, List, [], ◌∷◌, ◌++◌, length, get_or, sym, refl, ap, ◌∙◌, subst, ap₂, inl, inr, ⊎_elim, one-mul, mul-zero, zero-mul, mul-one, arith}
 use Rattle.netlist.specs.Netlist.{Netlist, modules, lawful}
 use Rattle.netlist.specs.Rules.{Rules, net, voltage}
-use Rattle.netlist.proofs.Words.{rules}
+use Rattle.netlist.proofs.Words.{keeps_rules}
 use Rattle.std.proofs.ByRecursion.{All-append}
 use Rattle.std.proofs.lemmas.Bool.{cases_lt, cases_eq}
 use Rattle.std.proofs.lemmas.Bool.Decides.{nat_tests}
@@ -35,7 +35,7 @@ not_virtual i e = let z : ◌≡◌ {A = ℕ} 0 1 = cc in omega arith
 
 module _ (n : Netlist) (ok : lawful n ≡ true) (a : List ℕ) (assigns : Assigns n a) where
   law : Rules n
-  law = rules n ok
+  law = keeps_rules n ok
 
   abbrev g : Timed
   g = timed n a

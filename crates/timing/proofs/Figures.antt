@@ -3,7 +3,7 @@ use Rattle.std.proofs.Common.{◌≡◌, ℕ, ◌+◌, ◌<◌, ◌≤◌, Bool,
 use Rattle.netlist.specs.declared.parts.Choice.{Choice}
 use Rattle.netlist.specs.Netlist.{Netlist, modules, lawful, no_choice}
 use Rattle.netlist.specs.Rules.{Rules, Offered, choice, menu, net, no_menu, no_net, voltage}
-use Rattle.netlist.proofs.Words.{rules}
+use Rattle.netlist.proofs.Words.{keeps_rules}
 use Rattle.std.proofs.lemmas.List.{get_or_past}
 use Rattle.std.proofs.lemmas.Bool.{cases_lt, le-ltb, cond_both}
 use Rattle.timing.specs.Assignments.{Assigns, supply}
@@ -24,7 +24,7 @@ module _ (n : Netlist) (a : List ℕ) where
 
   module _ (ok : lawful n ≡ true) (assigns : Assigns n a) where
     law : Rules n
-    law = rules n ok
+    law = keeps_rules n ok
 
     pub choice_bound : (m : ℕ) → (module_delay n a m ≤ 10000) × (module_power n a m ≤ 1000000)
     choice_bound m = ⊎_elim inside outside (cases_lt m (modules n))

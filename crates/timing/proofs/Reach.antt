@@ -3,7 +3,7 @@ use Rattle.std.proofs.Common.{◌≡◌, ℕ, zero, suc, ◌+◌, ◌-◌, ◌*�
 use Rattle.netlist.specs.FanIn.{fan_in}
 use Rattle.netlist.specs.Netlist.{Netlist, lawful}
 use Rattle.netlist.specs.Rules.{net}
-use Rattle.netlist.proofs.Words.{rules}
+use Rattle.netlist.proofs.Words.{keeps_rules}
 use Rattle.std.proofs.ByRecursion.{All-from_get_or}
 use Rattle.std.proofs.lemmas.List.{map_more, take_all, get_or_append_left, set_at, append_assoc, get_or-set_other, get_or-set_same, length-append, length-replicate}
 use Rattle.std.proofs.lemmas.List.Sums.{fold_push}
@@ -21,7 +21,7 @@ module _ (n : Netlist) (ok : lawful n ≡ true) where
   -- a net into module m has its driver below m, and m is a module
   pub into_ends : (m i : ℕ) → Into n m i → ((net n i).driver < m) × (m < 64)
   into_ends m i (h, r) =
-      let law = rules n ok in
+      let law = keeps_rules n ok in
       let ends = law.ends i h in
       let few = law.at_most_64 in
       (omega arith, omega arith)

@@ -5,7 +5,7 @@ use Rattle.netlist.specs.Rules.{Rules, Offered, menu, choice, voltage}
 use Rattle.netlist.specs.Slots.{bit, standing}
 use Rattle.netlist.specs.declared.parts.Choice.{Choice}
 use Rattle.netlist.proofs.Kept.{kept, kept_supplies}
-use Rattle.netlist.proofs.Words.{rules, kept_at}
+use Rattle.netlist.proofs.Words.{keeps_rules, kept_at}
 use Rattle.std.proofs.lemmas.List.FromFn.{length-range_with_len, get_or-range_with_len, length-map-range_with_len, get_or-map-range_with_len, fill_by_all}
 use Rattle.std.proofs.ByRecursion.{All-map, All-from_get_or}
 use Rattle.std.proofs.lemmas.List.{length-map, get_or-map, same_lists}
@@ -149,7 +149,7 @@ module _ (map' : ℕ) where
 -- Assignments and selections ---------------------------------------------------------------------------------------------
 module _ (n : Netlist) (ok : lawful n ≡ true) where
   law : Rules n
-  law = rules n ok
+  law = keeps_rules n ok
 
   pub offered_below : (m s : ℕ) → Offered n m s → s < 8
   offered_below m s b = let l = law.supply_numbers s (law.of_the_design m s b) in omega arith

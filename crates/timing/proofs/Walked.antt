@@ -1,7 +1,7 @@
 -- What a walk's table of arrivals says of the paths of a design. Assumes nothing.
 use Rattle.std.proofs.Common.{◌≡◌, ℕ, ◌<◌, ◌≤◌, max, true, List, ◌++◌, length, get_or, Decides, sym, refl, ap, ◌∙◌, subst, ⊎_elim, arith}
 use Rattle.netlist.specs.Netlist.{Netlist, modules, lawful}
-use Rattle.netlist.proofs.Words.{rules}
+use Rattle.netlist.proofs.Words.{keeps_rules}
 use Rattle.std.proofs.lemmas.List.{get_or_append_left}
 use Rattle.std.proofs.lemmas.Bool.{leb-true, le-leb}
 use Rattle.timing.specs.Arrivals.{KeepsOne, Arrives, LongestTo, Longest, arrivals, latest, longest_delay, meets}
@@ -10,7 +10,7 @@ use Rattle.timing.proofs.Arrived.{Forward, arrival, arrivals_at, length_arrivals
 use Rattle.timing.proofs.Keeps.{keeps_later}
 
 pub forward : (n : Netlist) → lawful n ≡ true → (d : Model) → Forward (timed_by n d)
-forward n ok d = let law = rules n ok in record { rises = λ i h. (law.ends i h).0; inside = λ i h. (law.ends i h).1 }
+forward n ok d = let law = keeps_rules n ok in record { rises = λ i h. (law.ends i h).0; inside = λ i h. (law.ends i h).1 }
 
 -- a table that begins with the arrivals
 module _ (keep : ℕ → ℕ → ℕ) (g : Timed) (k : ℕ) (known rest : List ℕ) (same : known ≡ arrivals keep g k ++ rest) where

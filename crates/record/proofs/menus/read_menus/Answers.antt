@@ -16,21 +16,21 @@ loop-field-init c =
 
 next : (c : goal.In-Ok-choice) → Next no_choice 6 (choice_entry c.args.bytes.now) (length c.args.bytes.now) c.in-Ok.map (c.loop-field.invariant.0 + 1) c.loop-field.left c.loop-field.choices c.loop-field.last c.loop-field.at
 next c =
-    reading_next no_choice 6 (choice_entry c.args.bytes.now) (length c.args.bytes.now) c.in-Ok.map (c.loop-field.invariant.0 + 1) c.loop-field.-field c.loop-field.left c.loop-field.choices c.loop-field.last c.loop-field.at
+    reading_next no_choice 6 (choice_entry c.args.bytes.now) (length c.args.bytes.now) c.in-Ok.map (c.loop-field.invariant.0 + 1) c.loop-field._field c.loop-field.left c.loop-field.choices c.loop-field.last c.loop-field.at
     c.loop-field.invariant.4 (omega arith)
 
 pub bounds-choices-supply : goal.bounds-choices-supply
 bounds-choices-supply c = (next c).low.in_byte
 
-pub overflow-sub-left : goal.overflow-sub-left
-overflow-sub-left c = (next c).some
+pub overflow_sub-left : goal.overflow_sub-left
+overflow_sub-left c = (next c).some
 
 pub loop-field-preserved : goal.loop-field-preserved
 loop-field-preserved c =
     let bs = c.args.bytes.now in
     let v = c.loop-field.invariant in
     let z = c.in-Ok-choice.ensures in
-    let f = reading_reads no_choice 6 (choice_entry bs) (length bs) c.in-Ok.map (v.0 + 1) c.loop-field.-field c.loop-field.left c.loop-field.choices c.loop-field.last c.loop-field.at c.in-Ok-choice.c v.4 (omega arith) z.room (sym z.value) in
+    let f = reading_reads no_choice 6 (choice_entry bs) (length bs) c.in-Ok.map (v.0 + 1) c.loop-field._field c.loop-field.left c.loop-field.choices c.loop-field.last c.loop-field.at c.in-Ok-choice.c v.4 (omega arith) z.room (sym z.value) in
     (v.0, v.1, v.2, v.3, f)
 
 pub modules-preserved : goal.modules-preserved
@@ -41,7 +41,7 @@ modules-preserved c =
     let p = v.0 in
     let n = c.modules.auto.places in
     let here = subst (λ k. Gathering one (length bs) k c.args.first c.args.start c.modules.m c.modules.places p) n v.2 in
-    let done = reading_done no_choice 6 (choice_entry bs) (length bs) c.in-Ok.map (p + 1) c.loop-field.-field c.loop-field.left c.loop-field.choices c.loop-field.last c.loop-field.at v.4 (omega arith) in
+    let done = reading_done no_choice 6 (choice_entry bs) (length bs) c.in-Ok.map (p + 1) c.loop-field._field c.loop-field.left c.loop-field.choices c.loop-field.last c.loop-field.at v.4 (omega arith) in
     let menu = menu_whole c.args.supplies bs p c.in-Ok.map c.loop-field.choices c.loop-field.at v.3 done in
     (v.1, gathering_reads one (length bs) (length c.args.places.now) c.args.first c.args.start c.modules.m c.modules.places p _ c.loop-field.at here (omega arith) menu v.4.filling.in_record)
 
@@ -63,7 +63,7 @@ returns-in-Some c =
           let p = v.0 in
           let n = c.modules.auto.places in
           let here = subst (λ k. Gathering one (length bs) k c.args.first c.args.start c.modules.m c.modules.places p) n v.2 in
-          let x = reading_refused no_choice 6 (choice_entry bs) (length bs) w.in-Ok.map (p + 1) w.loop-field.-field w.loop-field.left w.loop-field.choices w.loop-field.last w.loop-field.at w.in-Err-choice.f v.4 (omega arith) (sym w.in-Err-choice.ensures.value) in
+          let x = reading_refused no_choice 6 (choice_entry bs) (length bs) w.in-Ok.map (p + 1) w.loop-field._field w.loop-field.left w.loop-field.choices w.loop-field.last w.loop-field.at w.in-Err-choice.f v.4 (omega arith) (sym w.in-Err-choice.ensures.value) in
           let e = menu_refused c.args.supplies bs p w.in-Ok.map w.in-Err-choice.f v.3 x in
           let r = gathering_refused one (length bs) (length c.args.places.now) c.args.first c.args.start c.modules.m c.modules.places p (Field w.in-Err-choice.f) here (omega arith) e in
           record { value = cc; place = tt }

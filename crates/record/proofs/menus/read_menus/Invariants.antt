@@ -16,4 +16,4 @@ invariant-loop-field l =
     (p : ℕ) × (l.fault ≡ None)
     × Gathering (menu_block l.supplies l.bytes) (length l.bytes) (length l.places) l.first l.start l.m l.places p
     × (menu_map l.supplies l.bytes p ≡ Ok l.map)
-    × Reading no_choice 6 (choice_entry l.bytes) (length l.bytes) l.map (p + 1) l.-field l.left l.choices l.last l.at
+    × Reading no_choice 6 (choice_entry l.bytes) (length l.bytes) l.map (p + 1) l._field l.left l.choices l.last l.at

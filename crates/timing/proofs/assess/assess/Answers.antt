@@ -18,21 +18,21 @@ returns c =
     let a = c.args.supplies.now in
     let ok = c.args.design.now.ok in
     let s = c.in-Some.ensures.same in
-    let delay = c.longest-delay-delay.ensures.value ∙ ap₂ longest_delay s.0 s.1 in
+    let delay = c.longest_delay-delay.ensures.value ∙ ap₂ longest_delay s.0 s.1 in
     let f = gathered
     (c.power.ensures.value ∙ ap₂ power s.0 s.1)
     delay
     (ap₂ (λ t (o : Terms). leb t o.cycle) delay c.terms.ensures) in
-    let e : ◌≡◌ {A = Option Figures} (Some (record { power = c.power.result; delay = c.longest-delay-delay.result; meets = leb c.longest-delay-delay.result c.terms.result.cycle })) (assessed n a) =
+    let e : ◌≡◌ {A = Option Figures} (Some (record { power = c.power.result; delay = c.longest_delay-delay.result; meets = leb c.longest_delay-delay.result c.terms.result.cycle })) (assessed n a) =
     ap Some f ∙ ap (λ b. cond b (Some (figures n a)) None) c.in-Some.ensures.test in
     record { value = e; words = subst (λ r. MatchOption r (Assigns n a → ⊥) (Judged n a)) (sym e) (assessed_words n ok a); one_to_one = one_to_one n ok }
 
-pub returns-in-default : goal.returns-in-default
-returns-in-default c =
+pub returns-in_default : goal.returns-in_default
+returns-in_default c =
     let n = view c.args.design.now in
     let a = c.args.supplies.now in
     record {
-      value = ap (λ b. cond b (Some (figures n a)) None) c.in-default.ensures.test;
-      words = c.in-default.ensures.words;
+      value = ap (λ b. cond b (Some (figures n a)) None) c.in_default.ensures.test;
+      words = c.in_default.ensures.words;
       one_to_one = one_to_one n c.args.design.now.ok;
     }

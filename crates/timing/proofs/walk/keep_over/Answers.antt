@@ -7,8 +7,8 @@ use Rattle.timing.specs.Paths.{timed_by}
 use Rattle.timing.proofs.Reach.{keep_small, keep_more}
 use Rattle.timing.proofs.walk.keep_over.Goals as goal
 
-pub over-net-requires : goal.over-net-requires
-over-net-requires g c =
+pub over_net-requires : goal.over_net-requires
+over_net-requires g c =
     record {
       into = All-get_or (Into (view c.args.design.now) c.args.m) c.args.rest.now c.loop-i.i-index 0 c.loop-i-test.true c.requires.into.1;
       reach = c.requires.reach;

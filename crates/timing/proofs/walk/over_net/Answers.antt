@@ -11,8 +11,8 @@ bounds-known-driver g c =
     let ends = into_ends (view c.args.design.now) c.args.design.now.ok c.args.m c.args.i c.requires.into in
     omega arith
 
-pub overflow-add-result : goal.overflow-add-result
-overflow-add-result g c =
+pub overflow_add-result : goal.overflow_add-result
+overflow_add-result g c =
     let e = ap (λ (ts : List Net). get_or c.args.known.now (get_or ts c.args.i no_net).driver 0) c.nets.ensures in
     let ends = into_ends (view c.args.design.now) c.args.design.now.ok c.args.m c.args.i c.requires.into in
     let low = c.requires.reach (net (view c.args.design.now) c.args.i).driver ends.0 in

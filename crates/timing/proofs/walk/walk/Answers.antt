@@ -1,7 +1,7 @@
 use Rattle.std.proofs.Common.{◌≡◌, ◌+◌, ◌-◌, ◌<◌, ◌++◌, length, replicate, ap, subst, ap₂, arith}
 use Rattle.netlist.specs.Netlist.{modules}
 use Rattle.netlist.specs.View.{view}
-use Rattle.netlist.proofs.Words.{rules}
+use Rattle.netlist.proofs.Words.{keeps_rules}
 use Rattle.timing.specs.Arrivals.{done, arrivals}
 use Rattle.timing.specs.Paths.{timed_by}
 use Rattle.timing.proofs.Reach.{arrivals_more, table_long, reach_more}
@@ -17,7 +17,7 @@ loop-m-preserved g c =
     let m = c.loop-m.m in
     let t = c.ready.result + c.at_module.result in
     let e : t ≡ done keep (timed_by n d) c.loop-m.arrivals m = ap₂ (λ x y. x + y) c.ready.ensures.value c.at_module.ensures.value in
-    let few = (rules n ok).at_most_64 in
+    let few = (keeps_rules n ok).at_most_64 in
     let menus = ap length c.menus-m-end.ensures in
     let inside : m < 64 = omega arith in
     let long = table_long n ok keep d c.loop-m.arrivals m c.loop-m.invariant.0 (omega arith) in

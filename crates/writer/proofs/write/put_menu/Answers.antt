@@ -21,8 +21,8 @@ loop-i-preserved c =
     elim c.if-stands.branch [
       | then-stands z ↦
           ap (λ p. then_put (written p) rest) z.page-is
-          ∙ appended w (written z.put-choice.new.page) (choice_bytes (get_or xs i no_choice)) rest left whole
-          c.loop-i.invariant (slots_stand choice_bytes no_choice map i xs (omega arith) (sym c.stands.ensures ∙ z.if-stands.true)) z.put-choice.ensures
+          ∙ appended w (written z.put_choice.new.page) (choice_bytes (get_or xs i no_choice)) rest left whole
+          c.loop-i.invariant (slots_stand choice_bytes no_choice map i xs (omega arith) (sym c.stands.ensures ∙ z.if-stands.true)) z.put_choice.ensures
       | else-stands z ↦
           ap (λ p. then_put (written p) rest) z.page-is
           ∙ (ap (then_put w) (sym (slots_pass choice_bytes no_choice map i xs (omega arith) (sym c.stands.ensures ∙ z.if-stands.false))) ∙ c.loop-i.invariant)

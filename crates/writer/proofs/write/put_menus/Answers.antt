@@ -12,8 +12,8 @@ pub loop-menu-preserved : goal.loop-menu-preserved
 loop-menu-preserved c =
     let xs = c.args.menus.now in
     let i = c.loop-menu.menu-index in
-    appended (written c.loop-menu.page) (written c.put-menu.new.page) (menu_bytes (get_or xs i no_menu)) (all_bytes menu_bytes (drop (i + 1) xs)) (all_bytes menu_bytes (drop i xs)) (then_put (written c.args.page.now) (all_bytes menu_bytes xs))
-    c.loop-menu.invariant (blocks_next menu_bytes no_menu i xs (omega arith)) c.put-menu.ensures
+    appended (written c.loop-menu.page) (written c.put_menu.new.page) (menu_bytes (get_or xs i no_menu)) (all_bytes menu_bytes (drop (i + 1) xs)) (all_bytes menu_bytes (drop i xs)) (then_put (written c.args.page.now) (all_bytes menu_bytes xs))
+    c.loop-menu.invariant (blocks_next menu_bytes no_menu i xs (omega arith)) c.put_menu.ensures
 
 pub returns : goal.returns
 returns c =

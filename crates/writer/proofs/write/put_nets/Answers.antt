@@ -12,8 +12,8 @@ pub loop-net-preserved : goal.loop-net-preserved
 loop-net-preserved c =
     let xs = c.args.nets.now in
     let i = c.loop-net.net-index in
-    appended (written c.loop-net.page) (written c.put-net.new.page) (net_bytes (get_or xs i no_net)) (all_bytes net_bytes (drop (i + 1) xs)) (all_bytes net_bytes (drop i xs)) (then_put (written c.args.page.now) (all_bytes net_bytes xs))
-    c.loop-net.invariant (blocks_next net_bytes no_net i xs (omega arith)) c.put-net.ensures
+    appended (written c.loop-net.page) (written c.put_net.new.page) (net_bytes (get_or xs i no_net)) (all_bytes net_bytes (drop (i + 1) xs)) (all_bytes net_bytes (drop i xs)) (then_put (written c.args.page.now) (all_bytes net_bytes xs))
+    c.loop-net.invariant (blocks_next net_bytes no_net i xs (omega arith)) c.put_net.ensures
 
 pub returns : goal.returns
 returns c =

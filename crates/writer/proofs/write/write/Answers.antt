@@ -12,14 +12,14 @@ returns-then-out-n c =
     let d = c.args.design.now in
     let n = netlist c.terms.result c.supplies.result c.menus.result.now c.nets.result.now in
     let e = parts_same (view d) c.terms.result c.supplies.result c.menus.result.now c.nets.result.now c.terms.ensures c.supplies.ensures c.menus.ensures c.nets.ensures in
-    let b = page_holds (view d) n (written c.new-page.result) (written c.put-record.new.page) c.as-slice-record.result.now d.ok c.new-page.ensures c.put-record.ensures c.as-slice-record.ensures e in
+    let b = page_holds (view d) n (written c.new-page.result) (written c.put_record.new.page) c.as_slice-record.result.now d.ok c.new-page.ensures c.put_record.ensures c.as_slice-record.ensures e in
     record {
-      answer = too_short (view d) c.args.out.now c.as-slice-record.result.now b c.if-out-n.true;
+      answer = too_short (view d) c.args.out.now c.as_slice-record.result.now b c.if-out-n.true;
       length = tt;
       most = record_most (view d) d.ok;
       after = refl;
       read_back = writes_back (view d) d.ok;
-      one-record = no_other (view d) d.ok;
+      one_record = no_other (view d) d.ok;
     }
 
 pub returns : goal.returns
@@ -27,12 +27,12 @@ returns c =
     let d = c.args.design.now in
     let n = netlist c.terms.result c.supplies.result c.menus.result.now c.nets.result.now in
     let e = parts_same (view d) c.terms.result c.supplies.result c.menus.result.now c.nets.result.now c.terms.ensures c.supplies.ensures c.menus.ensures c.nets.ensures in
-    let b = page_holds (view d) n (written c.new-page.result) (written c.put-record.new.page) c.as-slice-record.result.now d.ok c.new-page.ensures c.put-record.ensures c.as-slice-record.ensures e in
+    let b = page_holds (view d) n (written c.new-page.result) (written c.put_record.new.page) c.as_slice-record.result.now d.ok c.new-page.ensures c.put_record.ensures c.as_slice-record.ensures e in
     record {
-      answer = long_enough (view d) c.args.out.now c.as-slice-record.result.now b c.if-out-n.false;
+      answer = long_enough (view d) c.args.out.now c.as_slice-record.result.now b c.if-out-n.false;
       length = ap length b;
       most = record_most (view d) d.ok;
-      after = put_in_front (view d) c.args.out.now c.as-slice-record.result.now b c.copy-from-slice.new.self c.copy-from-slice.ensures.after;
+      after = put_in_front (view d) c.args.out.now c.as_slice-record.result.now b c.copy_from_slice.new.self c.copy_from_slice.ensures.after;
       read_back = writes_back (view d) d.ok;
-      one-record = no_other (view d) d.ok;
+      one_record = no_other (view d) d.ok;
     }

@@ -19,10 +19,10 @@ returns c =
     let some : 0 < modules n = let l = c.if-modules-eq0.false in omega arith in
     let k = length c.menus-modules.result.now - 0 in
     let arrivals = c.arrivals-arrivals.result in
-    let end = c.latest-module-end.result in
+    let end = c.latest_module-end.result in
     let front : take k arrivals ≡ latest n (named x) = ap (λ (ts : List ℕ). take k ts) c.arrivals-arrivals.ensures.value ∙ take_at (latest n (named x)) (replicate (64 - modules n) 0) k (length_arrivals max g (modules n) ∙ omega arith) in
-    let inside : end < k = let l = c.latest-module-end.ensures.within in let e = ap length front ∙ length_arrivals max g (modules n) in omega arith in
-    let total : path_delay g end (steps c.trace.result) ≡ longest_delay n (named x) = c.trace.ensures.delay ∙ sym (get_or-take k arrivals end 0 inside) ∙ c.latest-module-end.ensures.greatest ∙ ap (λ (ts : List ℕ). fold max 0 ts) front in
+    let inside : end < k = let l = c.latest_module-end.ensures.within in let e = ap length front ∙ length_arrivals max g (modules n) in omega arith in
+    let total : path_delay g end (steps c.trace.result) ≡ longest_delay n (named x) = c.trace.ensures.delay ∙ sym (get_or-take k arrivals end 0 inside) ∙ c.latest_module-end.ensures.greatest ∙ ap (λ (ts : List ℕ). fold max 0 ts) front in
     let same = sym c.trace.ensures.end in
     record {
       some = sym (lt-ltb 0 (modules n) some);

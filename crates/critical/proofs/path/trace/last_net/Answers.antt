@@ -15,21 +15,21 @@ use Rattle.critical.proofs.path.trace.last_net.Goals as goal
 into_at : (x : Assignment) (m : ℕ) (is : List ℕ) → is ≡ fan_in (planned x) m → (k : ℕ) → k < length is → Into (planned x) m (get_or is k 0)
 into_at x m is e k h = All-get_or (Into (planned x) m) is k 0 h (subst (All (Into (planned x) m)) (sym e) (fan_in_into (planned x) x.design.now.ok m))
 
-pub comes-over-requires : goal.comes-over-requires
-comes-over-requires c =
-    let nets = c.fan-in-i-items.ensures ∙ ap (λ (n : Netlist). fan_in n c.args.m) c.design.ensures in
-    record { into = into_at c.args.assignment.now c.args.m c.fan-in-i-items.result.now nets c.loop-i.i-index c.loop-i-test.true }
+pub comes_over-requires : goal.comes_over-requires
+comes_over-requires c =
+    let nets = c.fan_in-i-items.ensures ∙ ap (λ (n : Netlist). fan_in n c.args.m) c.design.ensures in
+    record { into = into_at c.args.assignment.now c.args.m c.fan_in-i-items.result.now nets c.loop-i.i-index c.loop-i-test.true }
 
-pub returns-then-comes-over : goal.returns-then-comes-over
-returns-then-comes-over c =
-    let nets = c.fan-in-i-items.ensures ∙ ap (λ (n : Netlist). fan_in n c.args.m) c.design.ensures in
+pub returns-then-comes_over : goal.returns-then-comes_over
+returns-then-comes_over c =
+    let nets = c.fan_in-i-items.ensures ∙ ap (λ (n : Netlist). fan_in n c.args.m) c.design.ensures in
     record {
-      into = into_at c.args.assignment.now c.args.m c.fan-in-i-items.result.now nets c.loop-i.i-index c.loop-i-test.true;
-      arrives = eqb-true _ _ (sym c.if-comes-over.ensures);
+      into = into_at c.args.assignment.now c.args.m c.fan_in-i-items.result.now nets c.loop-i.i-index c.loop-i-test.true;
+      arrives = eqb-true _ _ (sym c.if-comes_over.ensures);
     }
 
 pub returns : goal.returns
 returns c =
     let x = c.args.assignment.now in
-    let nets = ap length (c.fan-in-i-items.ensures ∙ ap (λ (n : Netlist). fan_in n c.args.m) c.design.ensures) in
+    let nets = ap length (c.fan_in-i-items.ensures ∙ ap (λ (n : Netlist). fan_in n c.args.m) c.design.ensures) in
     no_nets (planned x) x.design.now.ok (named x) c.args.arrivals.now _ c.requires.known c.args.m c.requires.within (λ k h. c.loop-i.invariant k (omega arith))

@@ -2,7 +2,7 @@ use Rattle.std.proofs.Common.{◌≡◌, ℕ, ◌+◌, ◌<◌, List, [], ◌∷
 use Rattle.netlist.specs.Netlist.{Netlist}
 use Rattle.netlist.specs.Rules.{net, no_net}
 use Rattle.netlist.specs.declared.parts.Net.{Net}
-use Rattle.netlist.proofs.Words.{rules}
+use Rattle.netlist.proofs.Words.{keeps_rules}
 use Rattle.std.proofs.lemmas.List.{length-set, take_more_set}
 use Rattle.timing.specs.View.{planned, named}
 use Rattle.timing.proofs.Reach.{into_ends}
@@ -28,7 +28,7 @@ loop-i-preserved c =
     let e = driver_is c in
     let ends = into_ends n x.design.now.ok c.loop-i.at i c.in-Some.ensures.into in
     let inside = c.loop-i.invariant.1 in
-    let few = (rules n x.design.now.ok).at_most_64 in
+    let few = (keeps_rules n x.design.now.ok).at_most_64 in
     let long = length-set c.loop-i.nets c.loop-i.count i in
     let steps = take_more_set c.loop-i.nets c.loop-i.count i (omega arith) in
     let more = traces_more n x.design.now.ok (named x) c.args.arrivals.now _ c.requires.known c.args.end c.loop-i.at i (take c.loop-i.count c.loop-i.nets) c.in-Some.ensures c.loop-i.invariant.3 in
@@ -39,5 +39,5 @@ loop-i-preserved c =
 pub returns : goal.returns
 returns c =
     let x = c.args.assignment.now in
-    let whole = traces_whole (planned x) x.design.now.ok (named x) c.args.arrivals.now _ c.requires.known c.args.end c.loop-i.at (take c.loop-i.count c.loop-i.nets) c.loop-i.invariant.1 c.in-default.ensures c.loop-i.invariant.3 in
+    let whole = traces_whole (planned x) x.design.now.ok (named x) c.args.arrivals.now _ c.requires.known c.args.end c.loop-i.at (take c.loop-i.count c.loop-i.nets) c.loop-i.invariant.1 c.in_default.ensures c.loop-i.invariant.3 in
     record { end = refl; path = whole.0; delay = whole.1 }

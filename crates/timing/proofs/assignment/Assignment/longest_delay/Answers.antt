@@ -1,6 +1,6 @@
 use Rattle.std.proofs.Common.{◌≡◌, ℕ, ◌-◌, max, List, ◌++◌, length, take, replicate, fold, sym, ap, ◌∙◌, subst, arith}
 use Rattle.netlist.specs.Netlist.{modules}
-use Rattle.netlist.proofs.Words.{rules}
+use Rattle.netlist.proofs.Words.{keeps_rules}
 use Rattle.std.proofs.lemmas.List.{take_at}
 use Rattle.timing.specs.Arrivals.{latest, longest_delay, Longest}
 use Rattle.timing.specs.Paths.{timed}
@@ -10,11 +10,11 @@ use Rattle.timing.proofs.Offers.{assigns_means}
 use Rattle.timing.proofs.Walked.{longest}
 use Rattle.timing.proofs.assignment.Assignment.longest_delay.Goals as goal
 
-pub slice-bounds-greatest-end : goal.slice-bounds-greatest-end
-slice-bounds-greatest-end c =
+pub slice_bounds-greatest-end : goal.slice_bounds-greatest-end
+slice_bounds-greatest-end c =
     let x = c.args.self.now in
     let long = (assigns_means (planned x) (named x) x.ok).one_each in
-    let few = (rules (planned x) x.design.now.ok).at_most_64 in
+    let few = (keeps_rules (planned x) x.design.now.ok).at_most_64 in
     omega arith
 
 pub returns : goal.returns

@@ -5,8 +5,8 @@ use Rattle.timing.specs.Assignments.{assigns, all_offered}
 use Rattle.timing.proofs.Offers.{assigns_means, assigns_from}
 use Rattle.timing.proofs.assignment.Assignment.of.Goals as goal
 
-pub returns-then-not-all-offered : goal.returns-then-not-all-offered
-returns-then-not-all-offered c =
+pub returns-then-not-all_offered : goal.returns-then-not-all_offered
+returns-then-not-all_offered c =
     let n = view c.args.design.now in
     let a = c.args.supplies.now in
     let none : assigns n a ≡ false = search rules in

@@ -8,5 +8,5 @@ use Rattle.timing.proofs.assignment.Assignment.power.Goals as goal
 pub returns : goal.returns
 returns c =
     let x = c.args.self.now in
-    let e : c.modules-power.result + c.shifters-power.result ≡ power (planned x) (named x) = ap₂ (λ y z. y + z) c.modules-power.ensures.value c.shifters-power.ensures.value in
+    let e : c.modules_power.result + c.shifters_power.result ≡ power (planned x) (named x) = ap₂ (λ y z. y + z) c.modules_power.ensures.value c.shifters_power.ensures.value in
     record { value = e; published = e ∙ same_power (planned x) x.design.now.ok (named x) (assigns_means (planned x) (named x) x.ok) }

@@ -8,6 +8,6 @@ pub loop-i-preserved : goal.loop-i-preserved
 loop-i-preserved c =
     let x = c.args.self.now in
     let more = sum_below_more c.loop-i.i (net_power (planned x) (named x)) in
-    let p = c.net-power-sum.ensures.value in
-    let b = c.net-power-sum.ensures.bound in
+    let p = c.net_power-sum.ensures.value in
+    let b = c.net_power-sum.ensures.bound in
     (omega arith, omega arith)

@@ -1,7 +1,7 @@
 use Rattle.std.proofs.Common.{◌≡◌, List, length, get_or, sym, ap, arith}
 use Rattle.netlist.specs.Rules.{no_net}
 use Rattle.netlist.specs.declared.parts.Net.{Net}
-use Rattle.netlist.proofs.Words.{rules}
+use Rattle.netlist.proofs.Words.{keeps_rules}
 use Rattle.timing.specs.View.{planned}
 use Rattle.timing.proofs.Figures.{no_wire}
 use Rattle.timing.proofs.assignment.Assignment.wire_delay.Goals as goal
@@ -16,5 +16,5 @@ returns c =
     let x = c.args.self.now in
     let nets = ap length c.nets.ensures in
     let e = ap (λ (ts : List Net). (get_or ts c.args.net no_net).wire) c.nets-2.ensures in
-    let b = (rules (planned x) x.design.now.ok).wires c.args.net (omega arith) in
+    let b = (keeps_rules (planned x) x.design.now.ok).wires c.args.net (omega arith) in
     record { value = e; bound = omega arith }
