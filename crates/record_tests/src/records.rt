@@ -169,7 +169,8 @@ fn each_damage_has_its_number_and_place(rt: HostRuntime) -> Result<(), Fail> {
         let mut bytes = EXAMPLE;
         assert!(rt; place < 64);
         bytes[place] = value;
-        refused(&rt, &bytes, &mut draft, number, block, at).note("a damaged byte")?;
+        // a damaged byte
+        refused(&rt, &bytes, &mut draft, number, block, at)?;
     }
     assert_eq!(rt;
         draft.design().nets().len(),
