@@ -4,7 +4,7 @@ use Rattle.netlist.specs.FanIn.{fan_in}
 use Rattle.netlist.specs.Netlist.{Netlist, modules, lawful}
 use Rattle.netlist.specs.Rules.{net}
 use Rattle.std.specs.List.{IsFirstMaxByKey}
-use Rattle.timing.specs.Arrivals.{Into, over_net, kept, arrivals, latest}
+use Rattle.timing.specs.Arrivals.{over_net, kept, arrivals, latest}
 use Rattle.timing.specs.Paths.{Timed, timed, model, module_delay, PathTo, path_delay}
 use Rattle.timing.proofs.Arrived.{arrival, over_some}
 use Rattle.timing.proofs.FanIns.{fan_in_has}

@@ -1,8 +1,8 @@
 -- The nets of a critical path. Assumes nothing.
-use Rattle.std.specs.Prelude.{◌≡◌, ℕ, ◌+◌, List, ◌++◌, take, slice_index}
+use Rattle.std.specs.Prelude.{◌≡◌, ℕ, ◌+◌, List, take, slice_index}
 use Rattle.netlist.specs.Netlist.{Netlist}
 use Rattle.timing.specs.Arrivals.{Into, over_net}
-use Rattle.timing.specs.Paths.{timed, module_delay, PathTo, path_delay}
+use Rattle.timing.specs.Paths.{timed, module_delay}
 use Rattle.critical.specs.declared.path.CriticalPath.{CriticalPath}
 
 abbrev pub steps : CriticalPath → List ℕ

@@ -1,2 +1,4 @@
 // The critical path of an assignment.
+#![tactic(auto)]
+
 pub mod path;

@@ -1,4 +1,6 @@
 // The worked example: a small design with all its parts, whose figures can be checked by hand.
+#![tactic(auto)]
+
 ghost use Rattle.std.specs.Prelude.{◌≡◌};
 ghost use Rattle.example.specs.Example.{example_bytes};
 

@@ -1,4 +1,6 @@
 // Where a record is refused, and why: a field's fault is carried whole inside its block's, and that inside the record's.
+#![tactic(auto)]
+
 ghost use Rattle.std.specs.Prelude.{◌≡◌};
 ghost use Rattle.faults.specs.Faults.{block_refusal, block_place, refusal_of, block_of, place_of};
 ghost use Rattle.faults.specs.declared.BlockFault.TheVariants.{Field};

@@ -1,5 +1,7 @@
 // Checks the netlist record in its folder and prints the design, or where and why the record is refused. Where there
 // is a file of choices too, it prints what that assignment costs and how long its critical path takes.
+#![tactic(auto)]
+
 mod design;
 mod report;
 

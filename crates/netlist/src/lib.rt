@@ -1,4 +1,6 @@
 // Designs that a supply voltage planner works on, and the drafts that build them.
+#![tactic(auto)]
+
 pub mod design;
 mod fan_in;
 mod menu;

@@ -1,4 +1,6 @@
 // Holds the timing and power of small random designs to a count of all their paths, one by one.
+#![tactic(auto)]
+
 mod assign;
 mod build;
 mod draw;

@@ -16,7 +16,6 @@ use Rattle.netlist.proofs.Kept.{kept_supplies, supplies_lawful_from, kept_menu, 
 use Rattle.faults.specs.declared.FieldFault.{FieldFault}
 use Rattle.faults.specs.declared.BlockFault.{BlockFault}
 use Rattle.faults.specs.declared.BlockFault.TheVariants.{Map, Field}
-use Rattle.faults.specs.declared.RecordFault.{RecordFault}
 use Rattle.faults.specs.declared.RecordFault.TheVariants.{Block}
 use Rattle.record.specs.Steps.{Read, inside, ahead}
 use Rattle.record.specs.Fields.{Bytes, field_fault, field, number, spelled, optional}

@@ -1,5 +1,5 @@
 -- One record: what is written reads back as the design, and what is read is written back byte for byte. Assumes nothing.
-use Rattle.std.proofs.Common.{◌≡◌, ℕ, ◌+◌, ◌^◌, ◌<◌, ◌≤◌, true, false, ltb, leb, List, [], ◌∷◌, ◌++◌, length, get_or, drop, Ok, Result, sym, refl, ap, ◌∙◌, subst, append_assoc, arith}
+use Rattle.std.proofs.Common.{◌≡◌, ℕ, ◌+◌, ◌^◌, ◌<◌, ◌≤◌, true, false, ltb, leb, List, [], ◌∷◌, ◌++◌, length, get_or, drop, Ok, sym, refl, ap, ◌∙◌, subst, append_assoc, arith}
 use Rattle.std.proofs.lemmas.List.{append-nil, length-drop, drop_all}
 use Rattle.std.proofs.lemmas.Bool.{le-ltb, ltb-false, le-leb, leb-true}
 use Rattle.std.proofs.lemmas.Bool.Decides.{nat_tests}
@@ -9,7 +9,6 @@ use Rattle.netlist.specs.Slots.{bit}
 use Rattle.netlist.specs.Netlist.{Netlist, netlist, modules, every, within, is_zero, terms_lawful, supplies_lawful, menu_lawful, net_lawful, lawful}
 use Rattle.netlist.specs.Calls.{terms_of}
 use Rattle.netlist.proofs.Kept.{Kept, kept, lawful_from}
-use Rattle.faults.specs.declared.RecordFault.{RecordFault}
 use Rattle.faults.specs.declared.RecordFault.TheVariants.{Block, BytesFollow}
 use Rattle.record.specs.declared.head.Head.{Head}
 use Rattle.record.specs.Steps.{inside}

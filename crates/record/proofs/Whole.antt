@@ -7,7 +7,6 @@ use Rattle.netlist.specs.declared.parts.Menu.{Menu}
 use Rattle.netlist.specs.declared.parts.Net.{Net}
 use Rattle.netlist.specs.Netlist.{Netlist, netlist}
 use Rattle.faults.specs.declared.BlockFault.{BlockFault}
-use Rattle.faults.specs.declared.RecordFault.{RecordFault}
 use Rattle.faults.specs.declared.RecordFault.TheVariants.{BytesFollow}
 use Rattle.record.specs.declared.head.Head.{Head}
 use Rattle.record.specs.Steps.{inside}

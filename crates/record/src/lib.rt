@@ -1,4 +1,6 @@
 // Reads a netlist record, block by block or into a draft.
+#![tactic(auto)]
+
 mod block;
 mod field;
 mod fill;

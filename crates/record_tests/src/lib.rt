@@ -1,4 +1,6 @@
 // Drafts, records and their refusals on examples.
+#![tactic(auto)]
+
 ghost use Rattle.record_tests.specs.Example.{OneRecord};
 
 #[cfg(test)]

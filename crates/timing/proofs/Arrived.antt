@@ -1,11 +1,11 @@
 -- The walk over the nets keeps, at each module, what is kept of the delays of all paths to it. Assumes nothing.
-use Rattle.std.proofs.Common.{◌≡◌, ℕ, zero, suc, ◌+◌, ◌<◌, ◌≤◌, max, ◌⊎◌, List, [], ◌∷◌, ◌++◌, map, length, get_or, fold, sym, refl, ap, ◌∙◌, subst, inl, inr, ⊎_elim, not-suc-le-zero, arith, length-append}
+use Rattle.std.proofs.Common.{◌≡◌, ℕ, zero, suc, ◌+◌, ◌<◌, ◌≤◌, max, ◌⊎◌, List, [], ◌∷◌, map, length, get_or, fold, sym, refl, ap, ◌∙◌, subst, inl, inr, ⊎_elim, not-suc-le-zero, arith, length-append}
 use Rattle.netlist.specs.FanIn.{fan_in_from}
 use Rattle.std.proofs.lemmas.Bool.{cases_lt}
 use Rattle.std.proofs.lemmas.List.{get_or_append_left, get_or_push, get_or-map, length-map}
 use Rattle.timing.specs.Arrivals.{KeepsOne, Arrives, Longest, kept, over_net, ready, done, arrivals}
 use Rattle.timing.specs.Paths.{Timed, net_of, PathTo, path_delay, first_module, Undriven}
-use Rattle.timing.proofs.FanIns.{Leads, fan_in_leads, fan_in_has}
+use Rattle.timing.proofs.FanIns.{fan_in_leads, fan_in_has}
 use Rattle.timing.proofs.Keeps.{keep_same, prevails_through, prevails_plus, folded_one, folded_prevails, keeps_later}
 
 -- Every net leads from a lower to a higher module, and inside.

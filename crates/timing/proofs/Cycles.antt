@@ -1,5 +1,5 @@
 -- Paths and the cycles through the virtual module. Assumes nothing.
-use Rattle.std.proofs.Common.{◌≡◌, ℕ, zero, suc, ◌+◌, ◌-◌, ◌*◌, ◌<◌, ◌≤◌, max, Bool, true, false, cond, ltb, leb, ◌⊎◌, List, [], ◌∷◌, ◌++◌, length, get_or, sym, refl, ap, ◌∙◌, subst, ap₂, inl, inr, ⊎_elim, one-mul, mul-zero, zero-mul, mul-one, arith}
+use Rattle.std.proofs.Common.{◌≡◌, ℕ, zero, suc, ◌+◌, ◌*◌, ◌<◌, ◌≤◌, max, Bool, true, false, cond, ltb, leb, ◌⊎◌, List, [], ◌∷◌, ◌++◌, length, sym, refl, ap, ◌∙◌, subst, ap₂, inl, inr, ⊎_elim, one-mul, mul-zero, zero-mul, mul-one, arith}
 use Rattle.netlist.specs.Netlist.{Netlist, modules, lawful}
 use Rattle.netlist.specs.Rules.{Rules, net, voltage}
 use Rattle.netlist.proofs.Words.{keeps_rules}
@@ -7,11 +7,10 @@ use Rattle.std.proofs.ByRecursion.{All-append}
 use Rattle.std.proofs.lemmas.Bool.{cases_lt, cases_eq}
 use Rattle.std.proofs.lemmas.Bool.Decides.{nat_tests}
 use Rattle.std.specs.List.{AllByRecursion as All}
-use Rattle.timing.specs.Arrivals.{Arrives}
 use Rattle.timing.specs.Assignments.{Assigns, supply}
 use Rattle.timing.specs.Paths.{Timed, timed, model, PathTo, path_delay, first_module, Undriven, Meets, module_delay, net_delay}
 use Rattle.timing.specs.Power.{power, module_power, net_power}
-use Rattle.timing.specs.Published.{Selection, Vertex, virtual, real, Edge, enter, along, leave, tail, head, InGraph, Joined, Apart, Cycle, delay_at, power_at, voltage_at, shifter_on, ls, objective, from_delay, level_shifter, wire, cycle_delay, InTime, selection_of}
+use Rattle.timing.specs.Published.{Selection, Vertex, virtual, real, Edge, enter, along, leave, tail, head, Joined, Apart, Cycle, power_at, shifter_on, objective, cycle_delay, InTime, selection_of}
 use Rattle.timing.specs.Shifters.{needs_shifter}
 use Rattle.timing.proofs.Arrived.{Forward, arrives, end_inside, within_latest}
 use Rattle.timing.proofs.Keeps.{keeps_later}

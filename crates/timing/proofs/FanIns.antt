@@ -1,9 +1,9 @@
 -- The nets into a module are just those whose receiver it is. Assumes nothing.
-use Rattle.std.proofs.Common.{◌≡◌, ℕ, zero, suc, ◌+◌, ◌-◌, ◌<◌, ◌≤◌, Bool, true, false, cond, eqb, List, [], ◌∷◌, length, get_or, sym, refl, ap, ◌∙◌, ⊎_elim, arith}
+use Rattle.std.proofs.Common.{◌≡◌, ℕ, zero, suc, ◌+◌, ◌<◌, Bool, true, false, cond, eqb, List, [], ◌∷◌, length, get_or, refl, arith}
 use Rattle.netlist.specs.FanIn.{fan_in_from}
 use Rattle.netlist.specs.Rules.{no_net}
 use Rattle.netlist.specs.declared.parts.Net.{Net}
-use Rattle.std.proofs.lemmas.Bool.{cases_Bool, eqb-true, eqb-false}
+use Rattle.std.proofs.lemmas.Bool.{eqb-true, eqb-false}
 
 -- i is the number of a net of the list, which begins with net j, and that net leads to m
 abbrev pub Leads : ℕ → ℕ → List Net → ℕ → Type 0

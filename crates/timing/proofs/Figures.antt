@@ -1,11 +1,11 @@
 -- The figures of one module and one net under an assignment. Assumes nothing.
-use Rattle.std.proofs.Common.{◌≡◌, ℕ, ◌+◌, ◌<◌, ◌≤◌, Bool, true, false, cond, ltb, List, length, get_or, sym, refl, ap, ◌∙◌, ap₂, ⊎_elim, arith}
+use Rattle.std.proofs.Common.{◌≡◌, ℕ, ◌<◌, ◌≤◌, true, false, List, length, get_or, ap, ◌∙◌, ⊎_elim, arith}
 use Rattle.netlist.specs.declared.parts.Choice.{Choice}
 use Rattle.netlist.specs.Netlist.{Netlist, modules, lawful, no_choice}
-use Rattle.netlist.specs.Rules.{Rules, Offered, choice, menu, net, no_menu, no_net, voltage}
+use Rattle.netlist.specs.Rules.{Rules, choice, net, no_menu, no_net}
 use Rattle.netlist.proofs.Words.{keeps_rules}
 use Rattle.std.proofs.lemmas.List.{get_or_past}
-use Rattle.std.proofs.lemmas.Bool.{cases_lt, le-ltb, cond_both}
+use Rattle.std.proofs.lemmas.Bool.{cases_lt}
 use Rattle.timing.specs.Assignments.{Assigns, supply}
 use Rattle.timing.specs.Paths.{module_delay}
 use Rattle.timing.specs.Power.{module_power}

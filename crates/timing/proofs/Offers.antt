@@ -1,7 +1,7 @@
 -- The test of an assignment, and what it says. Assumes nothing.
-use Rattle.std.proofs.Common.{◌≡◌, ℕ, zero, suc, ◌+◌, ◌<◌, ◌≤◌, Bool, true, false, ◌&&◌, List, [], ◌∷◌, length, get_or, drop, sym, refl, ap, ◌∙◌, ap₂, ⊎_elim, arith}
+use Rattle.std.proofs.Common.{◌≡◌, ℕ, zero, suc, ◌+◌, ◌<◌, ◌≤◌, true, false, ◌&&◌, List, [], ◌∷◌, length, get_or, drop, sym, refl, ap, ap₂, ⊎_elim, arith}
 use Rattle.netlist.specs.declared.parts.Menu.{Menu}
-use Rattle.netlist.specs.Netlist.{Netlist, modules}
+use Rattle.netlist.specs.Netlist.{Netlist}
 use Rattle.netlist.specs.Rules.{no_menu}
 use Rattle.netlist.specs.Slots.{bit}
 use Rattle.std.proofs.lemmas.List.{drop_more, drop_all}

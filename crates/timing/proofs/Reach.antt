@@ -1,5 +1,5 @@
 -- Where the nets into a module come from, and how large an arrival can be. Assumes nothing.
-use Rattle.std.proofs.Common.{◌≡◌, ℕ, zero, suc, ◌+◌, ◌-◌, ◌*◌, ◌<◌, ◌≤◌, true, List, [], ◌∷◌, ◌++◌, map, length, get_or, take, drop, set, replicate, fold, sym, refl, ap, ◌∙◌, ap₂, ⊎_elim, add-one, arith, below_more}
+use Rattle.std.proofs.Common.{◌≡◌, ℕ, suc, ◌+◌, ◌-◌, ◌*◌, ◌<◌, ◌≤◌, true, List, [], ◌∷◌, ◌++◌, map, length, get_or, take, drop, set, replicate, fold, sym, refl, ap, ◌∙◌, ap₂, ⊎_elim, add-one, arith, below_more}
 use Rattle.netlist.specs.FanIn.{fan_in}
 use Rattle.netlist.specs.Netlist.{Netlist, lawful}
 use Rattle.netlist.specs.Rules.{net}

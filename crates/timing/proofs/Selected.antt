@@ -1,18 +1,17 @@
 -- Assignments and the published variables correspond one to one. Assumes nothing.
-use Rattle.std.proofs.Common.{◌≡◌, ℕ, zero, suc, ◌+◌, ◌-◌, ◌*◌, ◌<◌, ◌≤◌, Bool, true, false, cond, eqb, ◌⊎◌, List, [], ◌∷◌, map, length, get_or, sym, refl, ap, ◌∙◌, subst, ap₂, inl, inr, ⊎_elim, add-zero, mul-zero, zero-add, mul-one, arith}
+use Rattle.std.proofs.Common.{◌≡◌, ℕ, zero, suc, ◌+◌, ◌*◌, ◌<◌, ◌≤◌, Bool, true, false, cond, eqb, ◌⊎◌, List, [], ◌∷◌, map, length, get_or, sym, refl, ap, ◌∙◌, subst, ap₂, inl, inr, ⊎_elim, mul-zero, zero-add, mul-one, arith}
 use Rattle.netlist.specs.Netlist.{Netlist, modules, lawful, no_choice}
 use Rattle.netlist.specs.Rules.{Rules, Offered, menu, choice, voltage}
 use Rattle.netlist.specs.Slots.{bit, standing}
 use Rattle.netlist.specs.declared.parts.Choice.{Choice}
 use Rattle.netlist.proofs.Kept.{kept, kept_supplies}
 use Rattle.netlist.proofs.Words.{keeps_rules, kept_at}
-use Rattle.std.proofs.lemmas.List.FromFn.{length-range_with_len, get_or-range_with_len, length-map-range_with_len, get_or-map-range_with_len, fill_by_all}
-use Rattle.std.proofs.ByRecursion.{All-map, All-from_get_or}
-use Rattle.std.proofs.lemmas.List.{length-map, get_or-map, same_lists}
-use Rattle.std.proofs.lemmas.Bool.{cases_Bool, cases_eq, eq-eqb, ne_eqb, cond-true, cond-false, both_ways}
+use Rattle.std.proofs.lemmas.List.FromFn.{get_or-range_with_len, length-map-range_with_len, get_or-map-range_with_len, fill_by_all}
+use Rattle.std.proofs.lemmas.List.{length-map, get_or-map}
+use Rattle.std.proofs.lemmas.Bool.{cases_eq, eq-eqb, ne_eqb, cond-true, cond-false, both_ways}
 use Rattle.std.specs.List.{range_with_len, AllByRecursion as All}
 use Rattle.timing.specs.Assignments.{Assigns, supply}
-use Rattle.timing.specs.Published.{Selection, Selects, Binary, weighed, total, offers, voltages, delays, powers, numbers, chosen, selected, selection_of, assignment_of, delay_at, power_at, voltage_at}
+use Rattle.timing.specs.Published.{Selection, Selects, Binary, weighed, total, offers, numbers, chosen, selected, selection_of, assignment_of, delay_at, power_at, voltage_at}
 
 -- Tables of places under a map ------------------------------------------------------------------------------------------
 pub map-standing : {X Y : Type 0} (f : X → Y) (map' i : ℕ) (xs : List X) → map f (standing map' i xs) ≡ standing map' i (map f xs)

@@ -1,5 +1,5 @@
 -- What is known of the shifter rule; nothing else looks at its text. Assumes nothing.
-use Rattle.std.proofs.Common.{◌≡◌, ℕ, Bool, true, false, ltb, refl, arith}
+use Rattle.std.proofs.Common.{◌≡◌, ℕ, false, ltb, refl, arith}
 use Rattle.netlist.specs.Netlist.{Netlist}
 use Rattle.netlist.specs.Rules.{voltage}
 use Rattle.std.proofs.lemmas.Bool.{le-ltb}

@@ -1,4 +1,6 @@
 // Timing and power of an assignment.
+#![tactic(auto)]
+
 pub mod assess;
 pub mod assignment;
 pub mod delays;

@@ -1,4 +1,6 @@
 // The figures of the worked example, from the definitions and from the code.
+#![tactic(auto)]
+
 ghost use Rattle.timing_tests.specs.Figures.{ExampleFigures};
 
 #[cfg(test)]

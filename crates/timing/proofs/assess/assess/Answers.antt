@@ -1,4 +1,4 @@
-use Rattle.std.proofs.Common.{◌≡◌, ℕ, Bool, true, false, cond, leb, Some, None, Option, sym, ap, ◌∙◌, subst, ap₂, MatchOption}
+use Rattle.std.proofs.Common.{◌≡◌, ℕ, Bool, cond, leb, Some, None, Option, sym, ap, ◌∙◌, subst, ap₂, MatchOption}
 use Rattle.netlist.specs.View.{view}
 use Rattle.netlist.specs.declared.parts.Terms.{Terms}
 use Rattle.timing.specs.Arrivals.{longest_delay}

@@ -1,4 +1,4 @@
-use Rattle.std.proofs.Common.{◌≡◌, Bool, true, false, ltb, get_or, sym, ◌∙◌, inl, inr, arith}
+use Rattle.std.proofs.Common.{◌≡◌, false, ltb, get_or, sym, ◌∙◌, inl, inr, arith}
 use Rattle.std.proofs.lemmas.Bool.Decides.{Decides-at, nat_tests}
 use Rattle.timing.specs.Assignments.{before}
 use Rattle.timing.proofs.Listed.{before_more, before_none, before_decides}

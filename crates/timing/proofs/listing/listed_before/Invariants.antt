@@ -1,4 +1,4 @@
-use Rattle.std.proofs.Common.{◌≡◌, ◌≤◌, length, drop}
+use Rattle.std.proofs.Common.{◌≡◌, drop}
 use Rattle.timing.specs.Assignments.{before}
 use Rattle.timing.proofs.listing.listed_before.Given as goal
 

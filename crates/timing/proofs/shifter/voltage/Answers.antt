@@ -1,4 +1,4 @@
-use Rattle.std.proofs.Common.{◌≡◌, sym, arith}
+use Rattle.std.proofs.Common.{sym, arith}
 use Rattle.netlist.specs.View.{view}
 use Rattle.netlist.proofs.Kept.{kept, kept_supplies}
 use Rattle.std.proofs.lemmas.List.{get_or_past}

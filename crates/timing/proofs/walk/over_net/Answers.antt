@@ -1,4 +1,4 @@
-use Rattle.std.proofs.Common.{◌≡◌, List, get_or, ap, arith, rules}
+use Rattle.std.proofs.Common.{List, get_or, ap, arith}
 use Rattle.netlist.specs.Rules.{net, no_net}
 use Rattle.netlist.specs.View.{view}
 use Rattle.netlist.specs.declared.parts.Net.{Net}

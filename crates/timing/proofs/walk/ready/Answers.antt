@@ -1,5 +1,4 @@
-use Rattle.std.proofs.Common.{◌≡◌, ℕ, ◌<◌, List, [], map, length, sym, ap, ◌∙◌, subst, arith}
-use Rattle.netlist.specs.FanIn.{fan_in}
+use Rattle.std.proofs.Common.{ℕ, ◌<◌, List, map, length, sym, ap, ◌∙◌, subst, arith}
 use Rattle.netlist.specs.View.{view}
 use Rattle.std.proofs.lemmas.List.{nil_from_length}
 use Rattle.std.proofs.lemmas.Bool.{eqb-true, eqb-false}

@@ -1,4 +1,4 @@
-use Rattle.std.proofs.Common.{◌≡◌, List, get_or, ap, ◌∙◌, arith}
+use Rattle.std.proofs.Common.{List, get_or, ap, ◌∙◌, arith}
 use Rattle.netlist.specs.Netlist.{Netlist}
 use Rattle.netlist.specs.Rules.{no_net}
 use Rattle.netlist.specs.declared.parts.Net.{Net}

@@ -1,4 +1,4 @@
-use Rattle.std.proofs.Common.{◌≡◌, ℕ, ◌-◌, ◌<◌, max, List, ◌++◌, length, get_or, take, replicate, fold, sym, ap, ◌∙◌, subst, arith}
+use Rattle.std.proofs.Common.{◌≡◌, ℕ, ◌-◌, ◌<◌, max, List, length, take, replicate, fold, sym, ap, ◌∙◌, subst, arith}
 use Rattle.netlist.specs.Netlist.{Netlist, modules}
 use Rattle.std.proofs.lemmas.List.{take_at, get_or-take}
 use Rattle.std.proofs.lemmas.Bool.{lt-ltb}

@@ -1,4 +1,4 @@
-use Rattle.std.proofs.Common.{◌≡◌, ℕ, ◌+◌, ◌<◌, true, List, length, get_or, sym, ap, ◌∙◌, subst, arith}
+use Rattle.std.proofs.Common.{◌≡◌, ℕ, ◌<◌, List, length, get_or, sym, ap, ◌∙◌, subst, arith}
 use Rattle.netlist.specs.FanIn.{fan_in}
 use Rattle.netlist.specs.Netlist.{Netlist}
 use Rattle.std.proofs.ByRecursion.{All-get_or}

@@ -1,4 +1,4 @@
-use Rattle.std.proofs.Common.{◌≡◌, ◌<◌, length, sym, ap, ◌∙◌, subst, arith, rules}
+use Rattle.std.proofs.Common.{length, sym, ap, arith}
 use Rattle.timing.specs.Assignments.{supply}
 use Rattle.timing.specs.View.{planned, named}
 use Rattle.timing.proofs.Figures.{no_module}

@@ -1,4 +1,4 @@
-use Rattle.std.proofs.Common.{◌≡◌, ℕ, ◌-◌, max, List, ◌++◌, length, take, replicate, fold, sym, ap, ◌∙◌, subst, arith}
+use Rattle.std.proofs.Common.{◌≡◌, ℕ, ◌-◌, max, List, length, take, replicate, fold, sym, ap, ◌∙◌, subst, arith}
 use Rattle.netlist.specs.Netlist.{modules}
 use Rattle.netlist.proofs.Words.{keeps_rules}
 use Rattle.std.proofs.lemmas.List.{take_at}

@@ -1,4 +1,4 @@
-use Rattle.std.proofs.Common.{◌≡◌, ◌<◌, ◌≤◌, length, ap, arith}
+use Rattle.std.proofs.Common.{length, ap, arith}
 use Rattle.netlist.proofs.Words.{keeps_rules}
 use Rattle.netlist.specs.declared.parts.Choice.{Choice}
 use Rattle.timing.specs.Power.{module_power}

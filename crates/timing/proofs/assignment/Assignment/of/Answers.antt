@@ -1,7 +1,7 @@
-use Rattle.std.proofs.Common.{◌≡◌, true, false, sym, refl, ap, ◌∙◌, rules}
+use Rattle.std.proofs.Common.{◌≡◌, true, false, sym, refl, rules}
 use Rattle.netlist.specs.View.{view}
 use Rattle.std.proofs.lemmas.Bool.{both_ways}
-use Rattle.timing.specs.Assignments.{assigns, all_offered}
+use Rattle.timing.specs.Assignments.{assigns}
 use Rattle.timing.proofs.Offers.{assigns_means, assigns_from}
 use Rattle.timing.proofs.assignment.Assignment.of.Goals as goal
 

@@ -1,4 +1,4 @@
-use Rattle.std.proofs.Common.{◌≡◌, List, length, get_or, sym, ap, arith}
+use Rattle.std.proofs.Common.{List, length, get_or, sym, ap, arith}
 use Rattle.netlist.specs.Rules.{no_net}
 use Rattle.netlist.specs.declared.parts.Net.{Net}
 use Rattle.netlist.proofs.Words.{keeps_rules}

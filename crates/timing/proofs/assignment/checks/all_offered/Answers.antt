@@ -1,4 +1,4 @@
-use Rattle.std.proofs.Common.{◌≡◌, true, false, sym, arith}
+use Rattle.std.proofs.Common.{sym, arith}
 use Rattle.std.proofs.lemmas.Bool.Decides.{nat_tests}
 use Rattle.timing.proofs.Offers.{not_as_long, offered_more, offered_all}
 use Rattle.timing.proofs.assignment.checks.all_offered.Goals as goal

@@ -1,4 +1,4 @@
-use Rattle.std.proofs.Common.{◌≡◌, ap, arith}
+use Rattle.std.proofs.Common.{ap, arith}
 use Rattle.netlist.specs.declared.parts.Choice.{Choice}
 use Rattle.timing.specs.View.{planned, named}
 use Rattle.timing.proofs.Figures.{choice_bound}
