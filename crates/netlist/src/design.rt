@@ -1,6 +1,6 @@
 // A design, whose ghost fields say that it keeps the rules, has room for its full size, and has its nets indexed.
 ghost use Rattle.std.specs.Prelude.{◌≡◌, ◌≤◌, true, vec_capacity};
-ghost use Rattle.netlist.specs.Indexed.{Roomy, Indexed};
+ghost use Rattle.netlist.specs.Indexed.{Indexed};
 ghost use Rattle.netlist.specs.Netlist.{lawful, netlist};
 
 use crate::parts::{Menu, Supplies, Terms};
@@ -15,7 +15,8 @@ pub struct Design {
     supplies: Supplies,
     menus: Vec<Menu>,
     nets: NetTable,
-    ghost room: { (64 ≤ vec_capacity menus) × Roomy nets },
+    ghost room: { (64 ≤ vec_capacity menus) × (256 ≤ vec_capacity nets.items) },
     ghost ok: { lawful (netlist terms supplies menus.items nets.items.items) ≡ true },
+    ghost index_room: { 256 ≤ vec_capacity nets.fan_in.nets },
     ghost index: { Indexed nets },
 }

@@ -21,5 +21,6 @@ invariant_of-self c =
     record {
       room = search rules;
       ok = subst⁻¹ F {x = vec_items c.push_reserved.new.self} {y = n.menus ++ m ∷ []} e k;
+      index_room = search rules;
       index = s.design.index;
     }

@@ -9,5 +9,6 @@ invariant_of-self c =
     record {
       room = search rules;
       ok = rw c.push.ensures.items (lawful_net (drawn s) c.args.driver c.args.receiver c.args.wire s.design.ok (search rules) (search rules) (search rules) (search rules));
+      index_room = search rules;
       index = c.push.ensures.index;
     }

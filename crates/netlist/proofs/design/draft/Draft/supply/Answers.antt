@@ -17,5 +17,6 @@ invariant_of-self c =
     record {
       room = search rules;
       ok = subst⁻¹ F (one_shl i 8 (omega arith)) k;
+      index_room = search rules;
       index = s.design.index;
     }

@@ -10,5 +10,6 @@ invariant_of-self c =
     record {
       room = search rules;
       ok = lawful_terms (drawn s) c.args.cycle c.args.shifter_delay c.args.shifter_power s.design.ok (grind (arith, nat_tests));
+      index_room = search rules;
       index = s.design.index;
     }
