@@ -6,4 +6,5 @@ pub mod Arrivals
 pub mod Power
 pub mod Published
 pub mod View
+pub mod Ways
 pub mod Assess

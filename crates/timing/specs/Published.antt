@@ -4,7 +4,7 @@ use Rattle.netlist.specs.declared.parts.Choice.{Choice}
 use Rattle.netlist.specs.Netlist.{Netlist, modules}
 use Rattle.netlist.specs.Rules.{menu, net}
 use Rattle.netlist.specs.Slots.{standing}
-use Rattle.std.specs.List.{range_with_len, AllByRecursion as All}
+use Rattle.std.specs.List.{range_with_len, AllByRecursion}
 use Rattle.timing.specs.Assignments.{Assigns}
 use Rattle.timing.specs.Paths.{Meets}
 use Rattle.timing.specs.Sums.{sum_below}
@@ -84,7 +84,7 @@ module _ (n : Netlist) where
   -- no vertex is passed twice
   abbrev pub Apart : List Edge → Type 0
   Apart [] = Unit {0}
-  Apart (e ∷ es) = All (λ f. tail f ≢ tail e) es × Apart es
+  Apart (e ∷ es) = AllByRecursion (λ f. tail f ≢ tail e) es × Apart es
 
   -- a cycle ends where it begins
   abbrev pub Cycle : List Edge → Type 0
@@ -117,7 +117,7 @@ module _ (n : Netlist) where
     pub record Selects : Type 0 where
       pub one_each : length u ≡ modules n
       pub as_many : (i : ℕ) → i < modules n → length (slice_index_or u i []) ≡ length (offers i)
-      pub binary : (i : ℕ) → i < modules n → All Binary (slice_index_or u i [])
+      pub binary : (i : ℕ) → i < modules n → AllByRecursion Binary (slice_index_or u i [])
       pub exactly_one : (i : ℕ) → i < modules n → total (slice_index_or u i []) ≡ 1
 
     -- what an edge adds: the delay of the module that it leaves, and of its shifter and its wire; the virtual module

@@ -1,14 +1,14 @@
 // Where a level shifter is needed.
 ghost use Rattle.std.specs.Prelude.{◌≡◌};
-ghost use Rattle.netlist.specs.Rules.{voltage as voltage-of};
+ghost use Rattle.netlist.specs.Rules.{voltage as voltage_of};
 ghost use Rattle.netlist.specs.View.{view};
-ghost use Rattle.timing.specs.Shifters.{climbs as climbs-from};
+ghost use Rattle.timing.specs.Shifters.{climbs as climbs_from};
 
 use netlist::design::Design;
 
 // The voltage of a supply, 0 where there is none.
 fn voltage(design: &Design, supply: u32) -> u32
-    ensures { result ≡ voltage-of (view design.now) supply }
+    ensures { result ≡ voltage_of (view design.now) supply }
 {
     if supply >= 8 {
         return 0;
@@ -18,7 +18,7 @@ fn voltage(design: &Design, supply: u32) -> u32
 
 // Whether a net from one supply to another needs a shifter: it does when the driver's voltage is below the receiver's.
 pub fn climbs(design: &Design, from: u32, to: u32) -> bool
-    ensures { result ≡ climbs-from (view design.now) from to }
+    ensures { result ≡ climbs_from (view design.now) from to }
 {
     voltage(design, from) < voltage(design, to)
 }

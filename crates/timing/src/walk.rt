@@ -3,7 +3,7 @@ ghost use Rattle.std.specs.Prelude.{◌≡◌, ℕ, ◌+◌, ◌-◌, ◌*◌, �
 ghost use Rattle.netlist.specs.Netlist.{modules};
 ghost use Rattle.netlist.specs.Rules.{net};
 ghost use Rattle.netlist.specs.View.{view};
-ghost use Rattle.std.specs.List.{AllByRecursion as All};
+ghost use Rattle.std.specs.List.{AllByRecursion};
 ghost use Rattle.timing.specs.Arrivals.{arrivals as arrivals_at, ready as ready_at, over_net, Arrives, Into, InReach};
 ghost use Rattle.timing.specs.Paths.{timed_by};
 
@@ -31,7 +31,7 @@ fn keep_over<W: Way, D: DelayModel>(
     first: u32,
     rest: &[u32],
 ) -> u32
-    requires into { All (Into (view design.now) m) (first ∷ rest.now) }
+    requires into { AllByRecursion (Into (view design.now) m) (first ∷ rest.now) }
     requires reach { InReach m known.now }
     ensures value { result ≡ fold W.Way.keeps (over_net (timed_by (view design.now) (D.DelayModel.model delays.now)) known.now first) (map (over_net (timed_by (view design.now) (D.DelayModel.model delays.now)) known.now) rest.now) }
     ensures bound { result ≤ 40000 * m + 20000 }

@@ -1,7 +1,7 @@
 // The timing of an assignment.
 ghost use Rattle.std.specs.Prelude.{◌≡◌, ℕ, ◌-◌, ◌<◌, max, ◌++◌, replicate, Decides, fold, slice_index};
 ghost use Rattle.netlist.specs.Netlist.{modules};
-ghost use Rattle.timing.specs.Arrivals.{latest, longest_delay, LongestTo, Longest, meets as meets-cycle};
+ghost use Rattle.timing.specs.Arrivals.{latest, longest_delay, LongestTo, Longest, meets as meets_cycle};
 ghost use Rattle.timing.specs.Paths.{timed, Meets};
 ghost use Rattle.timing.specs.Published.{InTime, selection_of};
 ghost use Rattle.timing.specs.View.{planned, named};
@@ -29,7 +29,7 @@ impl Assignment<'_, '_> {
 
     // Whether no path's delay exceeds the cycle time: the published timing constraint.
     pub fn meets(&self) -> bool
-        ensures value { result ≡ meets-cycle (planned self.now) (named self.now) }
+        ensures value { result ≡ meets_cycle (planned self.now) (named self.now) }
         ensures paths { Decides result (Meets (planned self.now) (named self.now)) }
         ensures published { Decides result (InTime (planned self.now) (selection_of (planned self.now) (named self.now))) }
     {

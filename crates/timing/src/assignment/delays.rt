@@ -1,8 +1,8 @@
 // The choice of each module, the shifters that the nets need, and the delays that follow.
 ghost use Rattle.std.specs.Prelude.{◌≡◌, ◌≤◌, if◌then◌else◌};
-ghost use Rattle.netlist.specs.Rules.{choice as choice-of, net as net_of};
-ghost use Rattle.timing.specs.Assignments.{supply as supply-of};
-ghost use Rattle.timing.specs.Paths.{model as model_of, net_delay as delay-along};
+ghost use Rattle.netlist.specs.Rules.{choice as choice_of, net as net_of};
+ghost use Rattle.timing.specs.Assignments.{supply as supply_of};
+ghost use Rattle.timing.specs.Paths.{model as model_of, net_delay as delay_along};
 ghost use Rattle.timing.specs.Shifters.{needs_shifter};
 ghost use Rattle.timing.specs.View.{planned, named};
 
@@ -17,7 +17,7 @@ const LAUNCH: u32 = 0;
 impl Assignment<'_, '_> {
     // The supply that it names for a module, 0 where there is no such module.
     pub fn supply(&self, module: u32) -> u32
-        ensures { result ≡ supply-of (named self.now) «module» }
+        ensures { result ≡ supply_of (named self.now) «module» }
     {
         let m = module as usize;
         if m >= self.supplies.len() {
@@ -28,7 +28,7 @@ impl Assignment<'_, '_> {
 
     // Delay and power of a module at its supply, none where there is no such module.
     pub fn choice(&self, module: u32) -> Choice
-        ensures { result ≡ choice-of (planned self.now) «module» (supply-of (named self.now) «module») }
+        ensures { result ≡ choice_of (planned self.now) «module» (supply_of (named self.now) «module») }
     {
         let m = module as usize;
         if m >= self.supplies.len() {
@@ -76,7 +76,7 @@ impl Assignment<'_, '_> {
     }
 
     pub fn net_delay(&self, net: u32) -> u32
-        ensures value { result ≡ delay-along (planned self.now) (named self.now) net }
+        ensures value { result ≡ delay_along (planned self.now) (named self.now) net }
         ensures bound { result ≤ 20000 }
     {
         self.wire_delay(net) + self.shifter_delay(net)

@@ -1,7 +1,7 @@
 // The power of an assignment.
 ghost use Rattle.std.specs.Prelude.{◌≡◌, ◌*◌, ◌≤◌, length};
 ghost use Rattle.netlist.specs.Netlist.{modules};
-ghost use Rattle.timing.specs.Power.{power as power-of, module_power, net_power as power-along};
+ghost use Rattle.timing.specs.Power.{power as power_of, module_power, net_power as power_along};
 ghost use Rattle.timing.specs.Published.{objective, selection_of};
 ghost use Rattle.timing.specs.Sums.{sum_below};
 ghost use Rattle.timing.specs.View.{planned, named};
@@ -11,7 +11,7 @@ use super::Assignment;
 impl Assignment<'_, '_> {
     // The shifter power where a net needs a shifter, else 0.
     fn net_power(&self, net: u32) -> u32
-        ensures value { result ≡ power-along (planned self.now) (named self.now) net }
+        ensures value { result ≡ power_along (planned self.now) (named self.now) net }
         ensures bound { result ≤ 10000 }
     {
         if self.needs_shifter(net) {
@@ -33,7 +33,7 @@ impl Assignment<'_, '_> {
     }
 
     fn shifters_power(&self) -> u32
-        ensures value { result ≡ sum_below (length (planned self.now).nets) (power-along (planned self.now) (named self.now)) }
+        ensures value { result ≡ sum_below (length (planned self.now).nets) (power_along (planned self.now) (named self.now)) }
         ensures bound { result ≤ 2560000 }
     {
         let mut sum: u32 = 0;
@@ -45,7 +45,7 @@ impl Assignment<'_, '_> {
 
     // The power of all modules, and of a shifter for each net that needs one: the published objective.
     pub fn power(&self) -> u32
-        ensures value { result ≡ power-of (planned self.now) (named self.now) }
+        ensures value { result ≡ power_of (planned self.now) (named self.now) }
         ensures published { result ≡ objective (planned self.now) (selection_of (planned self.now) (named self.now)) }
     {
         self.modules_power() + self.shifters_power()
