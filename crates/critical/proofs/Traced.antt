@@ -8,7 +8,8 @@ use Rattle.timing.specs.Arrivals.{over_net, kept, arrivals, latest}
 use Rattle.timing.specs.Paths.{Timed, timed, model, module_delay, PathTo, path_delay}
 use Rattle.timing.proofs.Arrived.{arrival, over_some}
 use Rattle.timing.proofs.FanIns.{fan_in_has}
-use Rattle.timing.proofs.Keeps.{keeps_later, folded_one, folded_prevails}
+use Rattle.timing.proofs.Keeps.{folded_one, folded_prevails}
+use Rattle.timing.specs.Ways.{keeps_later}
 use Rattle.timing.proofs.Reach.{into_ends}
 use Rattle.timing.proofs.Walked.{forward, table_at}
 use Rattle.critical.specs.Steps.{ComesOver}

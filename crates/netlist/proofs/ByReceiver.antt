@@ -149,9 +149,9 @@ into_between rs m n h =
     between_is (into_below n rs) (begin rs m) (begin rs (m + 1)) ∙ rw (add-one, a, t) (drop_at (into_below m rs) (into m 0 rs) (length (into_below m rs)) refl)
 
 -- the beginnings in one list
-pub getD_begins : (n : ℕ) (rs : List ℕ) (m : ℕ) → m < n → get_or (begins n rs) m 0 ≡ begin rs m
+pub get_or-begins : (n : ℕ) (rs : List ℕ) (m : ℕ) → m < n → get_or (begins n rs) m 0 ≡ begin rs m
 unfolding begins
-getD_begins n rs m h = get_or-map-range_with_len (begin rs) 0 n m m 0 h (zero-add m)
+get_or-begins n rs m h = get_or-map-range_with_len (begin rs) 0 n m m 0 h (zero-add m)
 
 pub begins_from : (n : ℕ) (rs xs : List ℕ) → length xs ≡ n → ((m : ℕ) → m < n → get_or xs m 0 ≡ begin rs m) → xs ≡ begins n rs
 unfolding begins
@@ -162,7 +162,7 @@ begins_none n = begins_from n [] (replicate n 0) (length-replicate n 0) (λ m h.
 
 pub begins_push : (n : ℕ) (rs : List ℕ) (r : ℕ) (xs : List ℕ) → length xs ≡ n → ((m : ℕ) → m < n → get_or xs m 0 ≡ get_or (begins n rs) m 0 + cond (ltb r m) 1 0) → xs ≡ begins n (rs ++ r ∷ [])
 begins_push n rs r xs e h =
-    begins_from n (rs ++ r ∷ []) xs e (λ m l. h m l ∙ ap (λ x. x + cond (ltb r m) 1 0) (getD_begins n rs m l) ∙ sym (begin_push rs r m))
+    begins_from n (rs ++ r ∷ []) xs e (λ m l. h m l ∙ ap (λ x. x + cond (ltb r m) 1 0) (get_or-begins n rs m l) ∙ sym (begin_push rs r m))
 
 -- the index of a list of nets
 pub index_none : (numbers first : List ℕ) (ts : List Net) → ts ≡ [] → numbers ≡ [] → first ≡ replicate 65 0 → Index numbers first ts
@@ -171,7 +171,7 @@ index_none numbers first ts e n f =
 
 module _ (numbers first : List ℕ) (ts : List Net) (h : Index numbers first ts) where
   pub first_at : (m : ℕ) → m < 65 → get_or first m 0 ≡ begin (receivers ts) m
-  first_at m l = ap (λ xs. get_or xs m 0) h.1 ∙ getD_begins 65 (receivers ts) m l
+  first_at m l = ap (λ xs. get_or xs m 0) h.1 ∙ get_or-begins 65 (receivers ts) m l
 
   pub length_numbers : length numbers ≡ begin (receivers ts) 64
   unfolding begin

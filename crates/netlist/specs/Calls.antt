@@ -1,5 +1,5 @@
 -- The calls of a draft: the rules that each can break, in rising number, and what it does. Assumes nothing.
-use Rattle.std.specs.Prelude.{ℕ, ◌+◌, ◌/◌, ◌^◌, not, ◌&&◌, ltb, List, [], ◌∷◌, ◌++◌, length, None, ◌==◌, nat_le, nat_lt, slice_set}
+use Rattle.std.specs.Prelude.{ℕ, ◌+◌, ◌/◌, ◌^◌, not, ◌&&◌, List, [], ◌∷◌, ◌++◌, length, None, ◌==◌, nat_le, nat_lt, slice_set}
 use Rattle.netlist.specs.declared.parts.Terms.{Terms}
 use Rattle.netlist.specs.declared.parts.Choice.{Choice}
 use Rattle.netlist.specs.declared.parts.Menu.{Menu}
@@ -22,7 +22,7 @@ with_terms n cycle delay power = netlist (terms_of cycle delay power) n.supplies
 abbrev pub supply_rules : Netlist → ℕ → ℕ → List Rule
 supply_rules n number voltage =
     (5, not (nat_le number 7 && voltage_in_limits voltage))
-    ∷ (6, not (n.supplies.map / 2 ^ number == 0 && every (ltb voltage) (standing n.supplies.map 0 n.supplies.voltages)))
+    ∷ (6, not (n.supplies.map / 2 ^ number == 0 && every (nat_lt voltage) (standing n.supplies.map 0 n.supplies.voltages)))
     ∷ (25, nat_lt 0 (modules n)) ∷ []
 
 abbrev pub with_supply : Netlist → ℕ → ℕ → Netlist

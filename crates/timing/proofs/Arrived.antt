@@ -6,7 +6,8 @@ use Rattle.std.proofs.lemmas.List.{get_or_append_left, get_or_push, get_or-map, 
 use Rattle.timing.specs.Arrivals.{KeepsOne, Arrives, Longest, kept, over_net, ready, done, arrivals}
 use Rattle.timing.specs.Paths.{Timed, net_of, PathTo, path_delay, first_module, Undriven}
 use Rattle.timing.proofs.FanIns.{fan_in_leads, fan_in_has}
-use Rattle.timing.proofs.Keeps.{keep_same, prevails_through, prevails_plus, folded_one, folded_prevails, keeps_later}
+use Rattle.timing.proofs.Keeps.{keep_same, prevails_through, prevails_plus, folded_one, folded_prevails}
+use Rattle.timing.specs.Ways.{keeps_later}
 
 -- Every net leads from a lower to a higher module, and inside.
 pub record Forward (g : Timed) : Type 0 where

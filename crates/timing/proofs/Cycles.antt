@@ -13,7 +13,7 @@ use Rattle.timing.specs.Power.{power, module_power, net_power}
 use Rattle.timing.specs.Published.{Selection, Vertex, virtual, real, Edge, enter, along, leave, tail, head, Joined, Apart, Cycle, power_at, shifter_on, objective, cycle_delay, InTime, selection_of}
 use Rattle.timing.specs.Shifters.{needs_shifter}
 use Rattle.timing.proofs.Arrived.{Forward, arrives, end_inside, within_latest}
-use Rattle.timing.proofs.Keeps.{keeps_later}
+use Rattle.timing.specs.Ways.{keeps_later}
 use Rattle.timing.proofs.Sums.{sum_below_same}
 use Rattle.timing.proofs.Walked.{forward}
 use Rattle.timing.proofs.Shifters.{climbs_higher}

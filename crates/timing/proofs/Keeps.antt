@@ -1,13 +1,6 @@
 -- Ways of keeping one of two arrivals. Assumes nothing.
-use Rattle.std.proofs.Common.{◌≡◌, ℕ, zero, suc, ◌+◌, ◌<◌, max, ◌⊎◌, List, [], ◌∷◌, length, get_or, fold, sym, refl, ap, ◌∙◌, inl, inr, ⊎_elim, arith}
-use Rattle.std.proofs.lemmas.Bool.{cases_lt}
+use Rattle.std.proofs.Common.{◌≡◌, ℕ, zero, suc, ◌+◌, ◌<◌, List, [], ◌∷◌, length, get_or, fold, sym, refl, ap, ◌∙◌, ⊎_elim, arith}
 use Rattle.timing.specs.Arrivals.{KeepsOne}
-
-pub keeps_later : KeepsOne max
-keeps_later = record { one_of_two = later; order = λ x y. omega arith; grouping = λ x y z. omega arith; adding = λ x y c. omega arith }
-  where
-    later : (x y : ℕ) → (max x y ≡ x) ⊎ (max x y ≡ y)
-    later x y = ⊎_elim (λ l. inr (omega arith)) (λ l. inl (omega arith)) (cases_lt x y)
 
 module _ (keep : ℕ → ℕ → ℕ) (way : KeepsOne keep) where
   pub keep_same : (x : ℕ) → keep x x ≡ x

@@ -7,7 +7,7 @@ use Rattle.std.proofs.lemmas.Bool.{leb-true, le-leb}
 use Rattle.timing.specs.Arrivals.{KeepsOne, Arrives, LongestTo, Longest, arrivals, latest, longest_delay, meets}
 use Rattle.timing.specs.Paths.{Timed, Model, timed_by, timed, Meets, PathTo, path_delay}
 use Rattle.timing.proofs.Arrived.{Forward, arrival, arrivals_at, length_arrivals, arrives, within_latest, greatest_longest}
-use Rattle.timing.proofs.Keeps.{keeps_later}
+use Rattle.timing.specs.Ways.{keeps_later}
 
 pub forward : (n : Netlist) → lawful n ≡ true → (d : Model) → Forward (timed_by n d)
 forward n ok d = let law = keeps_rules n ok in record { rises = λ i h. (law.ends i h).0; inside = λ i h. (law.ends i h).1 }

@@ -1,7 +1,7 @@
 // What is kept of two arrivals.
 ghost use Rattle.std.specs.Prelude.{◌≡◌, ℕ, max};
 ghost use Rattle.timing.specs.Arrivals.{KeepsOne};
-ghost use Rattle.timing.specs.Ways.{max_keeps_one};
+ghost use Rattle.timing.specs.Ways.{keeps_later};
 
 // A way of keeping one of two arrivals; order and grouping do not matter, and a delay may be added before or after.
 pub trait Way {
@@ -19,7 +19,7 @@ pub struct Latest;
 impl Way for Latest {
     ghost keeps = { max };
 
-    ghost one = { max_keeps_one };
+    ghost one = { keeps_later };
 
     fn keep(a: u32, b: u32) -> u32 {
         a.max(b)
