@@ -3,6 +3,7 @@
 
 pub mod design;
 mod fan_in;
+mod indexed;
 mod menu;
 pub mod parts;
 pub mod refusal;

@@ -8,10 +8,9 @@ ghost use Rattle.netlist.specs.Rules.{Rules};
 ghost use Rattle.netlist.specs.View.{drawn};
 
 use super::Design;
-use crate::menu;
 use crate::parts::{Choice, Menu, Net, Shifter, Supplies, Terms, voltage_in_limits};
 use crate::refusal::Refusal;
-use crate::table::NetTable;
+use crate::{indexed, menu};
 use std::alloc::{AllocError, Global};
 
 #[derive(Drop)]
@@ -24,11 +23,13 @@ impl Draft {
     pub fn new(heap: Global) -> Result<Draft, AllocError>
         ensures { IfOk result (λ d. drawn d ≡ blank) }
     {
+        let (nets, fan_in) = indexed::new(heap)?;
         let design = Design {
             terms: Terms::WIDEST,
             supplies: Supplies::NONE,
             menus: Vec::with_capacity(heap, 64)?,
-            nets: NetTable::new(heap)?,
+            nets,
+            fan_in,
         };
         Ok(Draft { design })
     }
@@ -37,7 +38,7 @@ impl Draft {
     pub fn clear(&mut self)
         ensures { drawn self.new ≡ blank }
     {
-        self.design.nets.clear();
+        indexed::clear(&mut self.design.nets, &mut self.design.fan_in);
         self.design.menus.clear();
         self.design.supplies = Supplies::NONE;
         self.design.terms = Terms::WIDEST;
@@ -121,11 +122,12 @@ impl Draft {
         if self.design.nets.items.len() >= 256 {
             return Err(Refusal::TableFull);
         }
-        self.design.nets.push(Net {
+        let net = Net {
             driver,
             receiver,
             wire,
-        });
+        };
+        indexed::push(&mut self.design.nets, &mut self.design.fan_in, net);
         Ok(())
     }
 

@@ -38,6 +38,6 @@ impl Design {
         if module >= 64 {
             return &[];
         }
-        self.nets.fan_in.of(module)
+        self.fan_in.of(module)
     }
 }

@@ -1,6 +1,6 @@
 use Rattle.std.proofs.Common.{rules}
 use Rattle.netlist.proofs.ByReceiver.{index_none}
-use Rattle.netlist.proofs.table.NetTable.clear.Goals as goal
+use Rattle.netlist.proofs.indexed.clear.Goals as goal
 
 pub returns : goal.returns
 returns c =

@@ -1,6 +1,6 @@
 use Rattle.std.proofs.Common.{arith, rules}
 use Rattle.netlist.proofs.ByReceiver.{few_numbers, first_within, index_push}
-use Rattle.netlist.proofs.table.NetTable.push.Goals as goal
+use Rattle.netlist.proofs.indexed.push.Goals as goal
 
 pub add-requires : goal.add-requires
 add-requires c =
