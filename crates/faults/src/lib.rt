@@ -7,6 +7,8 @@ ghost use Rattle.faults.specs.declared.BlockFault.TheVariants.{Field};
 ghost use Rattle.faults.specs.declared.RecordFault.TheVariants.{Block};
 
 use netlist::refusal::Refusal;
+use std::error::Error;
+use std::fmt;
 
 // `at` is the field's first byte, counted from the start of the record.
 #[derive(Clone, Copy, PartialEq, Eq, Debug)]
@@ -96,3 +98,16 @@ impl From<(usize, BlockFault)> for RecordFault {
         }
     }
 }
+
+// The number, the place and the reason.
+impl fmt::Display for RecordFault {
+    fn fmt<W: fmt::Write>(&self, f: &mut fmt::Formatter<W>) -> fmt::Result {
+        let refusal = self.refusal();
+        let number = refusal.number();
+        let block = self.block();
+        let at = self.at();
+        write!(f, "{number} in block {block} at byte {at}: {refusal}")
+    }
+}
+
+impl Error for RecordFault {}

@@ -1,65 +1,71 @@
-// Prints a design.
+// Shows a design.
 use netlist::design::Design;
-use netlist::parts::{Menu, stands};
+use netlist::parts::{Choice, Menu, Net, Shifter, Terms};
+use std::fmt;
 
-pub(crate) fn show(rt: &HostRuntime, length: usize, design: &Design) -> anyhow::Result<()> {
-    let terms = design.terms();
-    let cycle = terms.cycle;
-    let delay = terms.shifter.delay;
-    let power = terms.shifter.power;
-    println!(rt; "record accepted, {length} bytes")?;
-    println!(rt; "cycle time {cycle} ps, shifter {delay} ps {power} uW")?;
-    show_supplies(rt, design)?;
-    show_modules(rt, design)?;
-    show_nets(rt, design)
+#[derive(Clone, Copy)]
+pub struct Shown<'d>(pub &'d Design);
+
+#[derive(Clone, Copy)]
+struct ShownMenu<'m>(&'m Menu);
+
+impl fmt::Display for Shown<'_> {
+    fn fmt<W: fmt::Write>(&self, f: &mut fmt::Formatter<W>) -> fmt::Result {
+        let Terms { cycle, shifter } = self.0.terms();
+        let Shifter { delay, power } = shifter;
+        writeln!(f, "cycle time {cycle} ps, shifter {delay} ps {power} uW")?;
+        self.supplies(f)?;
+        self.modules(f)?;
+        self.nets(f)
+    }
 }
 
-fn show_supplies(rt: &HostRuntime, design: &Design) -> anyhow::Result<()> {
-    let supplies = design.supplies();
-    let count = supplies.map.count_ones();
-    println!(rt; "supplies {count}")?;
-    for i in 0..8u32 {
-        if stands(supplies.map, i) {
-            let voltage = supplies.voltages[i as usize];
-            println!(rt; "  supply {i}: {voltage} mV")?;
+impl Shown<'_> {
+    fn supplies<W: fmt::Write>(&self, f: &mut fmt::Formatter<W>) -> fmt::Result {
+        let supplies = self.0.supplies();
+        let count = supplies.map.count_ones();
+        writeln!(f, "supplies {count}")?;
+        for (supply, voltage) in supplies.standing() {
+            writeln!(f, "  supply {supply}: {voltage} mV")?;
         }
+        Ok(())
     }
-    Ok(())
-}
 
-fn show_modules(rt: &HostRuntime, design: &Design) -> anyhow::Result<()> {
-    let count = design.menus().len();
-    println!(rt; "modules {count}")?;
-    for (m, menu) in design.menus().iter().enumerate() {
-        print!(rt; "  module {m}:")?;
-        show_menu(rt, menu)?;
-    }
-    Ok(())
-}
-
-fn show_menu(rt: &HostRuntime, menu: &Menu) -> anyhow::Result<()> {
-    let mut mark = "";
-    for i in 0..8u32 {
-        if stands(menu.map, i) {
-            let choice = menu.choices[i as usize];
-            let delay = choice.delay;
-            let power = choice.power;
-            print!(rt; "{mark} supply {i} {delay} ps {power} uW")?;
-            mark = ",";
+    fn modules<W: fmt::Write>(&self, f: &mut fmt::Formatter<W>) -> fmt::Result {
+        let count = self.0.menus().len();
+        writeln!(f, "modules {count}")?;
+        for (m, menu) in self.0.menus().iter().enumerate() {
+            writeln!(f, "  module {m}:{}", ShownMenu(menu))?;
         }
+        Ok(())
     }
-    println!(rt; "")?;
-    Ok(())
+
+    fn nets<W: fmt::Write>(&self, f: &mut fmt::Formatter<W>) -> fmt::Result {
+        let count = self.0.nets().len();
+        writeln!(f, "nets {count}")?;
+        for (i, net) in self.0.nets().iter().enumerate() {
+            let Net {
+                driver,
+                receiver,
+                wire,
+            } = net;
+            writeln!(f, "  net {i}: {driver} -> {receiver}, wire {wire} ps")?;
+        }
+        Ok(())
+    }
 }
 
-fn show_nets(rt: &HostRuntime, design: &Design) -> anyhow::Result<()> {
-    let count = design.nets().len();
-    println!(rt; "nets {count}")?;
-    for (i, net) in design.nets().iter().enumerate() {
-        let driver = net.driver;
-        let receiver = net.receiver;
-        let wire = net.wire;
-        println!(rt; "  net {i}: {driver} -> {receiver}, wire {wire} ps")?;
+impl fmt::Display for ShownMenu<'_> {
+    fn fmt<W: fmt::Write>(&self, f: &mut fmt::Formatter<W>) -> fmt::Result {
+        let mut more = false;
+        for (supply, choice) in self.0.standing() {
+            if more {
+                write!(f, ",")?;
+            }
+            let Choice { delay, power } = choice;
+            write!(f, " supply {supply} {delay} ps {power} uW")?;
+            more = true;
+        }
+        Ok(())
     }
-    Ok(())
 }

@@ -5,57 +5,27 @@
 mod design;
 mod report;
 
-use design::show;
-use faults::RecordFault;
+use design::Shown;
 use netlist::design::draft::Draft;
-use netlist::refusal::Refusal;
 use record::read::read;
 use report::report;
 use std::fs;
+use std::rt::Files;
 
 fn main(rt: HostRuntime) -> anyhow::Result<()> {
     inspect(&rt)
 }
 
-fn inspect(rt: &HostRuntime) -> anyhow::Result<()> {
+fn inspect(rt: &(impl Files + Print + AllocGlobal)) -> anyhow::Result<()> {
     // An unreadable file is an empty record.
-    let bytes = match fs::read(rt, "netlist.rec") {
-        Ok(bytes) => bytes,
-        Err(_) => Vec::new(rt.alloc()),
-    };
+    let bytes = fs::read(rt, "netlist.rec").unwrap_or_else(|_| Vec::new(rt.alloc()));
     let mut draft = Draft::new(rt.alloc())?;
     match read(bytes.as_slice(), &mut draft) {
         Ok(()) => {
-            show(rt, bytes.len(), draft.design())?;
+            println!(rt; "record accepted, {} bytes", bytes.len())?;
+            print!(rt; "{}", Shown(draft.design()))?;
             report(rt, draft.design())
         }
-        Err(fault) => refuse(rt, fault),
-    }
-}
-
-fn refuse(rt: &HostRuntime, fault: RecordFault) -> anyhow::Result<()> {
-    let number = fault.refusal().number();
-    let block = fault.block();
-    let at = fault.at();
-    let why = reason(fault.refusal());
-    println!(rt; "record refused {number} in block {block} at byte {at}: {why}")?;
-    Ok(())
-}
-
-fn reason(refusal: Refusal) -> &'static str {
-    match refusal {
-        Refusal::EndsEarly => "the record ends early",
-        Refusal::BytesFollow => "bytes follow the record's end",
-        Refusal::WrongMap => "the map has a forbidden bit or lacks a required one",
-        Refusal::AbsentValue =>
-            "an optional field is present and holds the value that its absence means",
-        Refusal::Limit => "a number is beyond its limits",
-        Refusal::Order => "supplies, delays or powers are out of order",
-        Refusal::WrongMenu => "the menu is empty or names a missing supply",
-        Refusal::WrongEnds =>
-            "an end of the net is missing, or its driver is not below its receiver",
-        Refusal::TableFull => "the table of modules or nets is full",
-        Refusal::ShortBuffer => "the buffer is too short",
-        Refusal::LateSupply => "a supply is added once modules exist",
+        Err(fault) => Ok(println!(rt; "record refused {fault}")?),
     }
 }

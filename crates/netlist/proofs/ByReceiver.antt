@@ -6,11 +6,11 @@ use Rattle.std.proofs.lemmas.List.{append-nil, append_assoc, length-append, leng
 use Rattle.std.proofs.lemmas.Slice.{between_is}
 use Rattle.std.proofs.lemmas.Bool.{and_parts, cases_Bool, cases_lt, eq-eqb, ne_eqb}
 use Rattle.std.proofs.lemmas.Bool.Decides.{nat_tests}
-use Rattle.std.specs.List.{between, insert}
+use Rattle.std.specs.List.{between, insert, list_all}
 use Rattle.netlist.specs.declared.parts.Net.{Net}
 use Rattle.netlist.specs.ByReceiver.{receivers, into, into_below, begin, begins, Index}
 use Rattle.netlist.specs.FanIn.{fan_in_from}
-use Rattle.netlist.specs.Netlist.{every, net_lawful}
+use Rattle.netlist.specs.Netlist.{net_lawful}
 
 -- the nets into one module
 pub into-receivers : (m i : ℕ) (ts : List Net) → into m i (receivers ts) ≡ fan_in_from m i ts
@@ -42,10 +42,10 @@ length-into m i j (r ∷ rs) =
     elim (cases_Bool (eqb r m)) [ inl b ↦ rw b (ap suc e) | inr b ↦ rw b e ]
 
 -- there are none into a module that no net may have for its receiver
-pub fan_in_past : (n m i : ℕ) (ts : List Net) → every (net_lawful n) ts ≡ true → n ≤ m → fan_in_from m i ts ≡ []
+pub fan_in_past : (n m i : ℕ) (ts : List Net) → list_all (net_lawful n) ts ≡ true → n ≤ m → fan_in_from m i ts ≡ []
 fan_in_past n m i [] h l = refl
 fan_in_past n m i (t ∷ ts) h l =
-    let p = and_parts (net_lawful n t) (every (net_lawful n) ts) h in
+    let p = and_parts (net_lawful n t) (list_all (net_lawful n) ts) h in
     let a = p.0 in
     let b : eqb t.receiver m ≡ false = grind (arith, nat_tests) in
     rw b (fan_in_past n m (i + 1) ts p.1 l)

@@ -1,6 +1,9 @@
 pub mod Bools
 pub mod Maps
-pub mod Slots
+pub mod Places
+pub mod Tests
+pub mod Lowest
+pub mod Used
 pub mod Kept
 pub mod Words
 pub mod Rebuilt

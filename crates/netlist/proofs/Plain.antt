@@ -1,20 +1,19 @@
 -- A lawful design holds nothing beyond its meaning. Assumes nothing.
 use Rattle.std.proofs.Common.{◌≡◌, ℕ, zero, suc, ◌+◌, ◌%◌, ◌^◌, ◌<◌, Bool, true, List, length, get_or, sym, ap, ◌∙◌, ap₂, inl, inr, arith}
+use Rattle.std.specs.List.{list_all}
 use Rattle.std.proofs.lemmas.List.{ext_get_or}
 use Rattle.std.proofs.lemmas.Bool.{cases_Bool, eqb-true}
 use Rattle.netlist.specs.declared.parts.Choice.{Choice}
-use Rattle.netlist.specs.declared.parts.Menu.{Menu}
 use Rattle.netlist.specs.declared.parts.Net.{Net}
-use Rattle.netlist.specs.declared.parts.Supplies.{Supplies}
 use Rattle.netlist.specs.declared.parts.Terms.{Terms}
 use Rattle.netlist.specs.Meaning.{SameMeaning}
-use Rattle.netlist.specs.Netlist.{Netlist, netlist, lawful, modules, every, is_zero, no_choice, is_no_choice}
+use Rattle.netlist.specs.Netlist.{Netlist, netlist, lawful, modules, is_zero, no_choice, is_no_choice}
 use Rattle.netlist.specs.Rules.{menu, no_menu, no_net}
-use Rattle.netlist.specs.Slots.{bit, absent}
+use Rattle.netlist.specs.Slots.{bit, absent, Menu, Supplies}
 use Rattle.netlist.proofs.Kept.{kept, kept_supplies}
 use Rattle.netlist.proofs.Maps.{mod_stands, mod_skips}
 use Rattle.netlist.proofs.Rebuilt.{is_none}
-use Rattle.netlist.proofs.Slots.{absent_at}
+use Rattle.netlist.proofs.Places.{absent_at}
 use Rattle.netlist.proofs.Words.{kept_at, menu_byte}
 
 -- maps with the same bits below k are the same below 2 ^ k
@@ -35,7 +34,7 @@ maps_same : (a b : ℕ) → a < 256 → b < 256 → ((i : ℕ) → bit a i ≡ b
 maps_same a b p q h = let m : a % 256 ≡ b % 256 = mod_same 8 a b (λ i l. h i) in omega arith
 
 -- tables with the same values under a map, and nothing at the other places
-tables_same : {T : Type 0} (none : T) (test : T → Bool) → ((x : T) → test x ≡ true → x ≡ none) → (map : ℕ) (xs ys : List T) → length xs ≡ length ys → every test (absent map 0 xs) ≡ true → every test (absent map 0 ys) ≡ true → ((i : ℕ) → bit map i ≡ true → get_or xs i none ≡ get_or ys i none) → xs ≡ ys
+tables_same : {T : Type 0} (none : T) (test : T → Bool) → ((x : T) → test x ≡ true → x ≡ none) → (map : ℕ) (xs ys : List T) → length xs ≡ length ys → list_all test (absent map 0 xs) ≡ true → list_all test (absent map 0 ys) ≡ true → ((i : ℕ) → bit map i ≡ true → get_or xs i none ≡ get_or ys i none) → xs ≡ ys
 tables_same none test t map xs ys e p q h =
     ext_get_or none xs ys e (λ i l.
     elim (cases_Bool (bit map i)) [
@@ -49,8 +48,8 @@ module _ (a b : Netlist) (h : lawful a ≡ true) (g : lawful b ≡ true) (s : Sa
       let p = kept_supplies a.supplies (kept a h).supplies in
       let q = kept_supplies b.supplies (kept b g).supplies in
       let e = maps_same a.supplies.map b.supplies.map p.byte q.byte s.same_supplies in
-      let v = tables_same 0 is_zero (λ x. eqb-true x 0) a.supplies.map a.supplies.voltages b.supplies.voltages (p.eight ∙ sym q.eight) p.zeros (rw e q.zeros) s.same_voltages in
-      ap₂ (λ (x : ℕ) (y : List ℕ). record { map = x; voltages = y }) e v
+      let v = tables_same 0 is_zero (λ x. eqb-true x 0) a.supplies.map a.supplies.values b.supplies.values (p.eight ∙ sym q.eight) p.zeros (rw e q.zeros) s.same_voltages in
+      ap₂ (λ (x : ℕ) (y : List ℕ). record { map = x; values = y }) e v
 
   menu_same : (m : ℕ) → m < modules a → menu a m ≡ menu b m
   menu_same m l =
@@ -59,8 +58,8 @@ module _ (a b : Netlist) (h : lawful a ≡ true) (g : lawful b ≡ true) (s : Sa
       let p = kept_at a h m l in
       let q = kept_at b g m k in
       let e = maps_same (menu a m).map (menu b m).map (menu_byte a h m l) (menu_byte b g m k) (λ i. s.same_offers m i l) in
-      let c = tables_same no_choice is_no_choice is_none (menu a m).map (menu a m).choices (menu b m).choices (p.eight ∙ sym q.eight) p.zeros (rw e q.zeros) (λ i o. s.same_choices m i l o) in
-      ap₂ (λ (x : ℕ) (y : List Choice). record { map = x; choices = y }) e c
+      let c = tables_same no_choice is_no_choice is_none (menu a m).map (menu a m).values (menu b m).values (p.eight ∙ sym q.eight) p.zeros (rw e q.zeros) (λ i o. s.same_choices m i l o) in
+      ap₂ (λ (x : ℕ) (y : List Choice). record { map = x; values = y }) e c
 
   menus_same : a.menus ≡ b.menus
   menus_same = ext_get_or no_menu a.menus b.menus s.as_many_modules menu_same

@@ -1,21 +1,20 @@
 -- The parts of a lawful design are accepted by a draft, one by one, and give the design again. Assumes nothing.
 use Rattle.std.proofs.Common.{◌≡◌, ℕ, suc, ◌+◌, ◌-◌, ◌%◌, ◌^◌, ◌<◌, true, false, ltb, List, [], ◌∷◌, ◌++◌, length, get_or, take, set, replicate, None, sym, ap, ◌∙◌, ap₂, arith}
+use Rattle.std.specs.List.{list_all}
 use Rattle.std.proofs.lemmas.Nat.{pow_pos, mod_below}
 use Rattle.std.proofs.lemmas.List.{append-nil, append_assoc, length-take-le, get_or_append_left, get_or-take, get_or_default, set_at, take_all, take_more}
 use Rattle.std.proofs.lemmas.Bool.{eqb-true}
 use Rattle.std.proofs.lemmas.Bool.Decides.{nat_tests}
 use Rattle.netlist.specs.declared.parts.Choice.{Choice}
-use Rattle.netlist.specs.declared.parts.Menu.{Menu}
 use Rattle.netlist.specs.declared.parts.Net.{Net}
-use Rattle.netlist.specs.declared.parts.Supplies.{Supplies}
 use Rattle.netlist.specs.declared.parts.Terms.{Terms}
 use Rattle.netlist.specs.Calls.{terms_rules, supply_rules, with_supply, module_rules, with_module, menu_of, net_rules}
-use Rattle.netlist.specs.Netlist.{Netlist, netlist, modules, every, terms_lawful, supplies_lawful, menu_lawful, net_lawful, voltage_in_limits, voltage_follows, is_zero, no_choice, is_no_choice, no_supplies}
+use Rattle.netlist.specs.Netlist.{Netlist, netlist, modules, terms_lawful, supplies_lawful, menu_lawful, net_lawful, voltage_in_limits, voltage_follows, is_zero, no_choice, is_no_choice, no_supplies}
 use Rattle.netlist.specs.Refusals.{first_broken}
-use Rattle.netlist.specs.Slots.{bit, standing}
+use Rattle.netlist.specs.Slots.{bit, standing, Menu, Supplies}
 use Rattle.netlist.proofs.Kept.{kept_menu, kept_supplies}
 use Rattle.netlist.proofs.Maps.{shr_none, bit_mod_low, bit_mod_in, mod_stands, mod_skips}
-use Rattle.netlist.proofs.Slots.{standing_at, standing_from, absent_at, order_at, cleared_same}
+use Rattle.netlist.proofs.Places.{standing_at, standing_from, absent_at, order_at, cleared_same}
 use Rattle.netlist.proofs.Words.{voltages_chain}
 
 -- terms
@@ -23,7 +22,7 @@ pub terms_accepted : (t : Terms) → terms_lawful t ≡ true → first_broken (t
 terms_accepted t h = grind (arith, nat_tests)
 
 -- modules
-pub module_accepted : (n : Netlist) (m : Menu) → menu_lawful n.supplies.map m ≡ true → modules n < 64 → first_broken (module_rules n m.map m.choices) ≡ None
+pub module_accepted : (n : Netlist) (m : Menu) → menu_lawful n.supplies.map m ≡ true → modules n < 64 → first_broken (module_rules n m.map m.values) ≡ None
 module_accepted n m h l = grind (arith, nat_tests)
 
 pub is_none : (c : Choice) → is_no_choice c ≡ true → c ≡ no_choice
@@ -32,12 +31,12 @@ is_none c h =
     let p : c.power ≡ 0 = grind (arith, nat_tests) in
     ap₂ (λ (x y : ℕ). record { delay = x; power = y }) d p
 
-pub menu_same : (supplies : ℕ) (m : Menu) → menu_lawful supplies m ≡ true → menu_of m.map m.choices ≡ m
+pub menu_same : (supplies : ℕ) (m : Menu) → menu_lawful supplies m ≡ true → menu_of m.map m.values ≡ m
 menu_same supplies m h =
     let k = kept_menu supplies m h in
-    ap (λ cs. record { map = m.map; choices = cs }) (cleared_same no_choice m.map is_no_choice is_none 0 m.choices k.zeros)
+    ap (λ cs. record { map = m.map; values = cs }) (cleared_same no_choice m.map is_no_choice is_none 0 m.values k.zeros)
 
-pub module_added : (n : Netlist) (m : Menu) → menu_lawful n.supplies.map m ≡ true → with_module n m.map m.choices ≡ netlist n.terms n.supplies (n.menus ++ m ∷ []) n.nets
+pub module_added : (n : Netlist) (m : Menu) → menu_lawful n.supplies.map m ≡ true → with_module n m.map m.values ≡ netlist n.terms n.supplies (n.menus ++ m ∷ []) n.nets
 module_added n m h = ap (λ x. netlist n.terms n.supplies (n.menus ++ x ∷ []) n.nets) (menu_same n.supplies.map m h)
 
 -- nets
@@ -49,7 +48,7 @@ abbrev pub filled : ℕ → List ℕ → List ℕ
 filled k vs = take k vs ++ replicate (8 - k) 0
 
 abbrev pub front : Supplies → ℕ → Supplies
-front s k = record { map = s.map % 2 ^ k; voltages = filled k s.voltages }
+front s k = record { map = s.map % 2 ^ k; values = filled k s.values }
 
 module _ (vs : List ℕ) (e : length vs ≡ 8) (k : ℕ) (l : k < 8) where
   filled_here : filled k vs ≡ take k vs ++ 0 ∷ replicate (8 - (k + 1)) 0
@@ -71,7 +70,7 @@ module _ (vs : List ℕ) (e : length vs ≡ 8) (k : ℕ) (l : k < 8) where
       get_or_append_left (take k vs) (replicate (8 - k) 0) d i (omega arith) ∙ get_or-take k vs i d h ∙ get_or_default vs i d 0 (omega arith)
 
 pub front_none : (s : Supplies) → front s 0 ≡ no_supplies
-front_none s = let e : s.map % 1 ≡ 0 = omega arith in ap (λ (x : ℕ). record { map = x; voltages = replicate 8 0 }) e
+front_none s = let e : s.map % 1 ≡ 0 = omega arith in ap (λ (x : ℕ). record { map = x; values = replicate 8 0 }) e
 
 module _ (s : Supplies) (h : supplies_lawful s ≡ true) where
   pub front_all : front s 8 ≡ s
@@ -80,8 +79,8 @@ module _ (s : Supplies) (h : supplies_lawful s ≡ true) where
       let b = q.byte in
       let l = q.eight in
       let m : s.map % 256 ≡ s.map = omega arith in
-      let v : filled 8 s.voltages ≡ s.voltages = append-nil (take 8 s.voltages) ∙ take_all 8 s.voltages (omega arith) in
-      ap₂ (λ (x : ℕ) (y : List ℕ). record { map = x; voltages = y }) m v
+      let v : filled 8 s.values ≡ s.values = append-nil (take 8 s.values) ∙ take_all 8 s.values (omega arith) in
+      ap₂ (λ (x : ℕ) (y : List ℕ). record { map = x; values = y }) m v
 
   module _ (k : ℕ) (l : k < 8) where
     -- a number without a supply is passed over
@@ -89,37 +88,37 @@ module _ (s : Supplies) (h : supplies_lawful s ≡ true) where
     front_skips b =
         let q = kept_supplies s h in
         let e = q.eight in
-        let z = eqb-true (get_or s.voltages k 0) 0 (absent_at s.map s.voltages is_zero q.zeros k 0 (omega arith) b) in
-        let v : filled (k + 1) s.voltages ≡ filled k s.voltages =
-        filled_more s.voltages e k l
-        ∙ ap (λ (x : ℕ). take k s.voltages ++ x ∷ replicate (8 - (k + 1)) 0) z
-        ∙ sym (filled_here s.voltages e k l) in
-        ap₂ (λ (x : ℕ) (y : List ℕ). record { map = x; voltages = y }) (mod_skips s.map k b) v
+        let z = eqb-true (get_or s.values k 0) 0 (absent_at s.map s.values is_zero q.zeros k 0 (omega arith) b) in
+        let v : filled (k + 1) s.values ≡ filled k s.values =
+        filled_more s.values e k l
+        ∙ ap (λ (x : ℕ). take k s.values ++ x ∷ replicate (8 - (k + 1)) 0) z
+        ∙ sym (filled_here s.values e k l) in
+        ap₂ (λ (x : ℕ) (y : List ℕ). record { map = x; values = y }) (mod_skips s.map k b) v
 
     -- a supply is accepted after those below it, and gives the next front
     module _ (n : Netlist) (f : n.supplies ≡ front s k) (b : bit s.map k ≡ true) where
-      pub supply_added : with_supply n k (get_or s.voltages k 0) ≡ netlist n.terms (front s (k + 1)) n.menus n.nets
+      pub supply_added : with_supply n k (get_or s.values k 0) ≡ netlist n.terms (front s (k + 1)) n.menus n.nets
       supply_added =
           let q = kept_supplies s h in
-          let v = get_or s.voltages k 0 in
-          let g : Supplies → Netlist = λ t. netlist n.terms (record { map = t.map + 2 ^ k; voltages = set t.voltages k v }) n.menus n.nets in
+          let v = get_or s.values k 0 in
+          let g : Supplies → Netlist = λ t. netlist n.terms (record { map = t.map + 2 ^ k; values = set t.values k v }) n.menus n.nets in
           ap g f
-          ∙ ap₂ (λ (x : ℕ) (y : List ℕ). netlist n.terms (record { map = x; voltages = y }) n.menus n.nets) (sym (mod_stands s.map k b)) (filled_set s.voltages q.eight k l)
+          ∙ ap₂ (λ (x : ℕ) (y : List ℕ). netlist n.terms (record { map = x; values = y }) n.menus n.nets) (sym (mod_stands s.map k b)) (filled_set s.values q.eight k l)
 
-      below_front : every (ltb (get_or s.voltages k 0)) (standing (front s k).map 0 (front s k).voltages) ≡ true
+      below_front : list_all (ltb (get_or s.values k 0)) (standing (front s k).map 0 (front s k).values) ≡ true
       below_front =
           let q = kept_supplies s h in
-          let vs = s.voltages in
+          let vs = s.values in
           let e = q.eight in
           standing_from (s.map % 2 ^ k) (filled k vs) (ltb (get_or vs k 0)) (λ i d t a.
           let c = bit_mod_in s.map k i a in
           rw (filled_at vs e k l i d c) (order_at s.map vs voltage_follows voltages_chain q.order i k 0 c (omega arith) (sym (bit_mod_low s.map k i c) ∙ a) b))
 
-      pub supply_accepted : modules n ≡ 0 → first_broken (supply_rules n k (get_or s.voltages k 0)) ≡ None
+      pub supply_accepted : modules n ≡ 0 → first_broken (supply_rules n k (get_or s.values k 0)) ≡ None
       supply_accepted m =
           let q = kept_supplies s h in
           let e = q.eight in
-          let v = standing_at s.map s.voltages voltage_in_limits q.limits k 0 (omega arith) b in
+          let v = standing_at s.map s.values voltage_in_limits q.limits k 0 (omega arith) b in
           let a = below_front in
           let z = shr_none (s.map % 2 ^ k) k (mod_below s.map (2 ^ k) (pow_pos k)) in
           rw f (grind (arith, nat_tests))

@@ -12,7 +12,7 @@ use Rattle.netlist.specs.Slots.{bit}
 use Rattle.netlist.proofs.Bools.{every_at}
 use Rattle.netlist.proofs.Kept.{Kept, KeptSupplies, KeptMenu, kept, kept_supplies, kept_menu}
 use Rattle.netlist.proofs.Maps.{bit_past, bit_in_byte, some_bit, bit_within}
-use Rattle.netlist.proofs.Slots.{standing_at, order_at}
+use Rattle.netlist.proofs.Places.{standing_at, order_at}
 
 pub voltages_chain : (x y z : ℕ) → voltage_follows (Some x) y ≡ true → voltage_follows (Some y) z ≡ true → voltage_follows (Some x) z ≡ true
 voltages_chain x y z a b = grind (arith, nat_tests)
@@ -60,25 +60,25 @@ module _ (n : Netlist) (h : lawful n ≡ true) where
       let z : 0 < (menu n m).map = grind (arith, nat_tests) in
       some_bit 8 (menu n m).map z (menu_byte m l)
 
-  place : (m i : ℕ) → Offered n m i → i < length (menu n m).choices
+  place : (m i : ℕ) → Offered n m i → i < length (menu n m).values
   place m i b = let e = (kept_at m (offered m i b)).eight in let l = in_byte i (of_design m i b) in omega arith
 
   limits_at : (m i : ℕ) → Offered n m i → choice_in_limits (choice n m i) ≡ true
-  limits_at m i b = standing_at (menu n m).map (menu n m).choices choice_in_limits (kept_at m (offered m i b)).limits i no_choice (place m i b) b
+  limits_at m i b = standing_at (menu n m).map (menu n m).values choice_in_limits (kept_at m (offered m i b)).limits i no_choice (place m i b) b
 
   follows_at : (m i j : ℕ) → i < j → Offered n m i → Offered n m j → choice_follows (Some (choice n m i)) (choice n m j) ≡ true
   follows_at m i j l a b =
-      order_at (menu n m).map (menu n m).choices choice_follows choices_chain (kept_at m (offered m i a)).order i j no_choice l (place m j b) a b
+      order_at (menu n m).map (menu n m).values choice_follows choices_chain (kept_at m (offered m i a)).order i j no_choice l (place m j b) a b
 
-  voltage_place : (i : ℕ) → Supply n i → i < length n.supplies.voltages
+  voltage_place : (i : ℕ) → Supply n i → i < length n.supplies.values
   voltage_place i b = let e = supplies.eight in let l = in_byte i b in omega arith
 
   voltage_limits_at : (i : ℕ) → Supply n i → voltage_in_limits (voltage n i) ≡ true
-  voltage_limits_at i b = standing_at n.supplies.map n.supplies.voltages voltage_in_limits supplies.limits i 0 (voltage_place i b) b
+  voltage_limits_at i b = standing_at n.supplies.map n.supplies.values voltage_in_limits supplies.limits i 0 (voltage_place i b) b
 
   voltage_follows_at : (i j : ℕ) → i < j → Supply n i → Supply n j → voltage_follows (Some (voltage n i)) (voltage n j) ≡ true
   voltage_follows_at i j l a b =
-      order_at n.supplies.map n.supplies.voltages voltage_follows voltages_chain supplies.order i j 0 l (voltage_place j b) a b
+      order_at n.supplies.map n.supplies.values voltage_follows voltages_chain supplies.order i j 0 l (voltage_place j b) a b
 
   net_at : (i : ℕ) → i < length n.nets → net_lawful (modules n) (net n i) ≡ true
   net_at i l = every_at (net_lawful (modules n)) n.nets all.nets i no_net l

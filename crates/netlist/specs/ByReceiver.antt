@@ -1,5 +1,5 @@
 -- The numbers of the nets in the order of their receivers. All is read off the list of receivers. Assumes nothing.
-use Rattle.std.specs.Prelude.{◌≡◌, ℕ, zero, suc, ◌+◌, cond, List, [], ◌∷◌, ◌++◌, map, length, ◌==◌}
+use Rattle.std.specs.Prelude.{◌≡◌, ℕ, zero, suc, ◌+◌, if◌then◌else◌, List, [], ◌∷◌, ◌++◌, map, length, ◌==◌}
 use Rattle.std.specs.List.{range_with_len}
 use Rattle.netlist.specs.declared.parts.Net.{Net}
 
@@ -10,7 +10,7 @@ receivers ts = map (λ t. t.receiver) ts
 -- the nets into module m, lowest first; the list of receivers begins with net i
 abbrev pub into : ℕ → ℕ → List ℕ → List ℕ
 into m i [] = []
-into m i (r ∷ rs) = cond (r == m) (i ∷ into m (i + 1) rs) (into m (i + 1) rs)
+into m i (r ∷ rs) = if r == m then i ∷ into m (i + 1) rs else into m (i + 1) rs
 
 -- the nets into the modules below m, module by module
 unfoldable pub into_below : ℕ → List ℕ → List ℕ

@@ -1,5 +1,6 @@
 pub mod Refusals
 pub mod Slots
+pub mod Standing
 pub mod Netlist
 pub mod View
 pub mod Calls

@@ -1,11 +1,10 @@
 -- A design as a reader sees it, in lists and numbers, and the rules that it keeps, as a test. Assumes nothing.
 use Rattle.std.specs.Prelude.{ℕ, Bool, true, ◌&&◌, List, [], ◌∷◌, length, replicate, Some, None, Option, ◌==◌, bit_and, nat_le, nat_lt}
+use Rattle.std.specs.List.{list_all}
 use Rattle.netlist.specs.declared.parts.Terms.{Terms}
-use Rattle.netlist.specs.declared.parts.Supplies.{Supplies}
 use Rattle.netlist.specs.declared.parts.Choice.{Choice}
-use Rattle.netlist.specs.declared.parts.Menu.{Menu}
 use Rattle.netlist.specs.declared.parts.Net.{Net}
-use Rattle.netlist.specs.Slots.{standing, absent}
+use Rattle.netlist.specs.Slots.{standing, absent, Supplies, Menu}
 
 -- modules and nets are numbered by their place
 pub record Netlist : Type 0 where
@@ -13,10 +12,6 @@ pub record Netlist : Type 0 where
   pub supplies : Supplies
   pub menus : List Menu
   pub nets : List Net
-
-abbrev pub every : {T : Type 0} → (T → Bool) → List T → Bool
-every test [] = true
-every test (x ∷ xs) = test x && every test xs
 
 -- each value follows the one before it
 abbrev pub in_order : {T : Type 0} → (Option T → T → Bool) → Option T → List T → Bool
@@ -43,10 +38,10 @@ is_zero n = n == 0
 
 abbrev pub supplies_lawful : Supplies → Bool
 supplies_lawful s =
-    nat_lt s.map 256 && length s.voltages == 8
-    && every voltage_in_limits (standing s.map 0 s.voltages)
-    && in_order voltage_follows None (standing s.map 0 s.voltages)
-    && every is_zero (absent s.map 0 s.voltages)
+    nat_lt s.map 256 && length s.values == 8
+    && list_all voltage_in_limits (standing s.map 0 s.values)
+    && in_order voltage_follows None (standing s.map 0 s.values)
+    && list_all is_zero (absent s.map 0 s.values)
 
 -- Menus
 abbrev pub choice_in_limits : Choice → Bool
@@ -68,10 +63,10 @@ names_supplies supplies map = nat_lt 0 map && bit_and map supplies == map
 
 abbrev pub menu_lawful : ℕ → Menu → Bool
 menu_lawful supplies m =
-    names_supplies supplies m.map && length m.choices == 8
-    && every choice_in_limits (standing m.map 0 m.choices)
-    && in_order choice_follows None (standing m.map 0 m.choices)
-    && every is_no_choice (absent m.map 0 m.choices)
+    names_supplies supplies m.map && length m.values == 8
+    && list_all choice_in_limits (standing m.map 0 m.values)
+    && in_order choice_follows None (standing m.map 0 m.values)
+    && list_all is_no_choice (absent m.map 0 m.values)
 
 -- Nets
 abbrev pub joins : ℕ → ℕ → ℕ → Bool
@@ -86,8 +81,8 @@ modules n = length n.menus
 abbrev pub lawful : Netlist → Bool
 lawful n =
     terms_lawful n.terms && supplies_lawful n.supplies
-    && nat_le (modules n) 64 && every (menu_lawful n.supplies.map) n.menus
-    && nat_le (length n.nets) 256 && every (net_lawful (modules n)) n.nets
+    && nat_le (modules n) 64 && list_all (menu_lawful n.supplies.map) n.menus
+    && nat_le (length n.nets) 256 && list_all (net_lawful (modules n)) n.nets
 
 abbrev pub netlist : Terms → Supplies → List Menu → List Net → Netlist
 netlist t s ms ns = record { terms = t; supplies = s; menus = ms; nets = ns }
@@ -97,7 +92,7 @@ abbrev pub new_terms : Terms
 new_terms = record { cycle = 2000000; shifter = record { delay = 0; power = 0 } }
 
 abbrev pub no_supplies : Supplies
-no_supplies = record { map = 0; voltages = replicate 8 0 }
+no_supplies = record { map = 0; values = replicate 8 0 }
 
 abbrev pub blank : Netlist
 blank = netlist new_terms no_supplies [] []

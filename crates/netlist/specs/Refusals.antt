@@ -1,5 +1,5 @@
 -- The number of each refusal, and of the answer that carries one. Assumes nothing.
-use Rattle.std.specs.Prelude.{ℕ, Bool, cond, List, [], ◌∷◌, Some, None, Ok, Err, Option, Result}
+use Rattle.std.specs.Prelude.{ℕ, Bool, if◌then◌else◌, List, [], ◌∷◌, Some, None, Ok, Err, Option, Result}
 use Rattle.netlist.specs.declared.refusal.Refusal.{Refusal}
 use Rattle.netlist.specs.declared.refusal.Refusal.TheVariants.{EndsEarly, BytesFollow, WrongMap, AbsentValue, Limit, Order, WrongMenu, WrongEnds, TableFull, ShortBuffer, LateSupply}
 
@@ -28,7 +28,7 @@ Rule = ℕ × Bool
 -- the number of the first rule that is broken; a call's rules stand in rising number
 abbrev pub first_broken : List Rule → Option ℕ
 first_broken [] = None
-first_broken (r ∷ rs) = cond r.1 (Some r.0) (first_broken rs)
+first_broken (r ∷ rs) = if r.1 then Some r.0 else first_broken rs
 
 -- what is in force after a call: nothing changes where it is refused
 abbrev pub unless_refused : {T : Type 0} → Option ℕ → T → T → T

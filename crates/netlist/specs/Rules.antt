@@ -1,16 +1,15 @@
 -- The rules of a design in plain words, over every supply, module and net. Assumes nothing.
 use Rattle.std.specs.Prelude.{◌≡◌, ℕ, ◌<◌, ◌≤◌, true, [], length, slice_index, slice_index_or}
 use Rattle.netlist.specs.declared.parts.Choice.{Choice}
-use Rattle.netlist.specs.declared.parts.Menu.{Menu}
 use Rattle.netlist.specs.declared.parts.Net.{Net}
-use Rattle.netlist.specs.Slots.{bit}
+use Rattle.netlist.specs.Slots.{bit, Menu}
 use Rattle.netlist.specs.Netlist.{Netlist, modules, no_choice}
 
 abbrev pub Between : ℕ → ℕ → ℕ → Type 0
 Between low high n = (low ≤ n) × (n ≤ high)
 
 abbrev pub no_menu : Menu
-no_menu = record { map = 0; choices = [] }
+no_menu = record { map = 0; values = [] }
 
 abbrev pub no_net : Net
 no_net = record { driver = 0; receiver = 0; wire = 0 }
@@ -20,7 +19,7 @@ module _ (n : Netlist) where
   Supply i = bit n.supplies.map i ≡ true
 
   abbrev pub voltage : ℕ → ℕ
-  voltage i = slice_index n.supplies.voltages i
+  voltage i = slice_index n.supplies.values i
 
   abbrev pub menu : ℕ → Menu
   menu m = slice_index_or n.menus m no_menu
@@ -30,7 +29,7 @@ module _ (n : Netlist) where
   Offered m i = bit (menu m).map i ≡ true
 
   abbrev pub choice : ℕ → ℕ → Choice
-  choice m i = slice_index_or (menu m).choices i no_choice
+  choice m i = slice_index_or (menu m).values i no_choice
 
   abbrev pub net : ℕ → Net
   net i = slice_index_or n.nets i no_net

@@ -5,7 +5,7 @@ use Rattle.netlist.specs.declared.design.draft.Draft.{Draft}
 use Rattle.netlist.specs.Netlist.{Netlist, netlist}
 
 abbrev pub view : Design → Netlist
-view d = netlist d.terms d.supplies (vec_items d.menus) (vec_items d.nets.items)
+view d = netlist d.terms d.supplies (vec_items d.menus) d.nets
 
 abbrev pub drawn : Draft → Netlist
 drawn d = view d.design

@@ -67,7 +67,7 @@ fn raise_above(first: &mut [u32; 65], receiver: u32)
     requires small { (m : ℕ) → m < 65 → slice_index first.old m < 256 }
     ensures { (m : ℕ) → m < 65 → slice_index first.new m ≡ slice_index first.old m + (if nat_lt receiver m then 1 else 0) }
 {
-    for m in receiver as usize + 1..65 {
-        first[m] += 1;
+    for count in &mut first[receiver as usize + 1..] {
+        *count += 1;
     }
 }

@@ -7,4 +7,5 @@ mod indexed;
 mod menu;
 pub mod parts;
 pub mod refusal;
+pub mod slots;
 pub mod table;

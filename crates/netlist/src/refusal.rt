@@ -2,38 +2,51 @@
 ghost use Rattle.std.specs.Prelude.{◌≡◌};
 ghost use Rattle.netlist.specs.Refusals.{number};
 
+use std::error::Error;
+use std::fmt;
+
 // Each refusal has a number; where several apply, a call gives the lowest.
 #[derive(Clone, Copy, PartialEq, Eq, Debug)]
 pub enum Refusal {
-    EndsEarly,
-    BytesFollow,
-    WrongMap,
-    AbsentValue,
-    Limit,
-    Order,
-    WrongMenu,
-    WrongEnds,
-    TableFull,
-    ShortBuffer,
-    LateSupply,
+    EndsEarly = 1,
+    BytesFollow = 2,
+    WrongMap = 3,
+    AbsentValue = 4,
+    Limit = 5,
+    Order = 6,
+    WrongMenu = 7,
+    WrongEnds = 8,
+    TableFull = 21,
+    ShortBuffer = 24,
+    LateSupply = 25,
 }
 
 impl Refusal {
     pub fn number(self) -> u32
         ensures { result ≡ number self }
     {
-        match self {
-            Refusal::EndsEarly => 1,
-            Refusal::BytesFollow => 2,
-            Refusal::WrongMap => 3,
-            Refusal::AbsentValue => 4,
-            Refusal::Limit => 5,
-            Refusal::Order => 6,
-            Refusal::WrongMenu => 7,
-            Refusal::WrongEnds => 8,
-            Refusal::TableFull => 21,
-            Refusal::ShortBuffer => 24,
-            Refusal::LateSupply => 25,
-        }
+        self as u32
     }
 }
+
+impl fmt::Display for Refusal {
+    fn fmt<W: fmt::Write>(&self, f: &mut fmt::Formatter<W>) -> fmt::Result {
+        f.write_str(match self {
+            Refusal::EndsEarly => "the record ends early",
+            Refusal::BytesFollow => "bytes follow the record's end",
+            Refusal::WrongMap => "the map has a forbidden bit or lacks a required one",
+            Refusal::AbsentValue =>
+                "an optional field is present and holds the value that its absence means",
+            Refusal::Limit => "a number is beyond its limits",
+            Refusal::Order => "supplies, delays or powers are out of order",
+            Refusal::WrongMenu => "the menu is empty or names a missing supply",
+            Refusal::WrongEnds =>
+                "an end of the net is missing, or its driver is not below its receiver",
+            Refusal::TableFull => "the table of modules or nets is full",
+            Refusal::ShortBuffer => "the buffer is too short",
+            Refusal::LateSupply => "a supply is added once modules exist",
+        })
+    }
+}
+
+impl Error for Refusal {}

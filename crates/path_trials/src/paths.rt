@@ -1,6 +1,7 @@
 // What the tables say of an assignment, by a count of all its paths one by one.
-use crate::tables::{Net, Tables};
-use anyhow::anyhow;
+use crate::tables::{Ends, Menu, Net, Tables};
+use anyhow::bail;
+use netlist::parts::{Choice, Shifter};
 use std::alloc::{AllocError, Global};
 
 // Far more paths than 12 nets can make.
@@ -10,32 +11,36 @@ const LIMIT: u32 = 10_000;
 #[derive(Clone, Copy)]
 struct Stage {
     voltage: u32,
-    delay: u32,
-    power: u32,
+    choice: Choice,
 }
 
 // A net under an assignment, with its shifter where it needs one.
 #[derive(Clone, Copy)]
 struct Step {
-    driver: u32,
-    receiver: u32,
-    delay: u32,
-    power: u32,
-    shifted: bool,
+    ends: Ends,
+    wire: u32,
+    shifter: Option<Shifter>,
+}
+
+// The tables under an assignment.
+#[derive(Drop)]
+struct Assigned {
+    stages: Vec<Stage>,
+    steps: Vec<Step>,
 }
 
 // A path so far: the module that it has come to, and its delay with that module's.
 #[derive(Clone, Copy)]
 struct Path {
-    end: u32,
+    end: u8,
     delay: u32,
 }
 
 #[derive(Drop)]
 pub struct Findings {
     pub power: u32,
-    pub shifters: u32,
-    pub paths: u32,
+    pub shifters: usize,
+    pub paths: usize,
     pub longest: u32,
     // The longest delay of a path that ends at each module.
     pub arrivals: Vec<u32>,
@@ -47,136 +52,127 @@ pub(crate) fn count_paths(
     tables: &Tables,
     bytes: &[u8],
 ) -> anyhow::Result<Option<Findings>> {
-    if bytes.len() != tables.modules.len() {
-        return Ok(None);
-    }
-    let Some(stages) = stages(heap, tables, bytes)? else {
+    let Some(assigned) = tables.assigned(heap, bytes)? else {
         return Ok(None);
     };
-    let steps = steps(heap, tables, stages.as_slice())?;
-    let mut findings = Findings::begin(heap, stages.as_slice(), steps.as_slice())?;
-    let mut open = one_module_paths(heap, stages.as_slice())?;
+    let mut findings = assigned.findings(heap)?;
+    let mut open = assigned.one_module_paths(heap)?;
     for _ in 0..LIMIT {
         let Some(path) = open.pop() else {
             return Ok(Some(findings));
         };
         findings.note(path);
-        extend(&mut open, path, steps.as_slice(), stages.as_slice())?;
+        assigned.extend(&mut open, path)?;
     }
-    Err(anyhow!("there are more paths than the limit"))
+    bail!("there are more paths than the limit")
 }
 
-fn stages(heap: Global, tables: &Tables, bytes: &[u8]) -> Result<Option<Vec<Stage>>, AllocError> {
-    let mut stages = Vec::new(heap);
-    for (module, supply) in tables.modules.iter().zip(bytes.iter()) {
-        let Some(offer) = module.offer(*supply) else {
+impl Tables {
+    fn assigned(&self, heap: Global, bytes: &[u8]) -> Result<Option<Assigned>, AllocError> {
+        if bytes.len() != self.modules.len() {
             return Ok(None);
-        };
-        let Some(voltage) = tables.voltage(*supply) else {
-            return Ok(None);
-        };
-        stages.push(Stage {
-            voltage,
-            delay: offer.delay,
-            power: offer.power,
-        })?;
+        }
+        let mut stages = Vec::new(heap);
+        for (menu, supply) in self.modules.iter().zip(bytes) {
+            let Some(stage) = self.stage(menu, *supply) else {
+                return Ok(None);
+            };
+            stages.push(stage)?;
+        }
+        let steps = self
+            .nets
+            .iter()
+            .map(|net| self.step(net, stages.as_slice()))
+            .collect(heap)?;
+        Ok(Some(Assigned { stages, steps }))
     }
-    Ok(Some(stages))
-}
 
-fn steps(heap: Global, tables: &Tables, stages: &[Stage]) -> Result<Vec<Step>, AllocError> {
-    let mut steps = Vec::new(heap);
-    for net in tables.nets.as_slice() {
-        let shifted = climbs(net, stages);
-        let terms = tables.terms;
-        let delay = if shifted { terms.shifter_delay } else { 0 };
-        steps.push(Step {
-            driver: net.driver,
-            receiver: net.receiver,
-            delay: net.wire.saturating_add(delay),
-            power: if shifted { terms.shifter_power } else { 0 },
-            shifted,
-        })?;
+    fn stage(&self, menu: &Menu, supply: u8) -> Option<Stage> {
+        let choice = *menu.get(&supply)?;
+        let voltage = *self.supplies.get(&supply)?;
+        Some(Stage { voltage, choice })
     }
-    Ok(steps)
+
+    fn step(&self, net: &Net, stages: &[Stage]) -> Step {
+        Step {
+            ends: net.ends,
+            wire: net.wire,
+            shifter: climbs(net.ends, stages).then_some(self.terms.shifter),
+        }
+    }
 }
 
 // A shifter is needed exactly where the driver's voltage is below the receiver's.
-fn climbs(net: &Net, stages: &[Stage]) -> bool {
+fn climbs(ends: Ends, stages: &[Stage]) -> bool {
     match (
-        stages.get(net.driver as usize),
-        stages.get(net.receiver as usize),
+        stages.get(usize::from(ends.driver)),
+        stages.get(usize::from(ends.receiver)),
     ) {
         (Some(driver), Some(receiver)) => driver.voltage < receiver.voltage,
         _ => false,
     }
 }
 
-// A path may begin at any module.
-fn one_module_paths(heap: Global, stages: &[Stage]) -> Result<Vec<Path>, AllocError> {
-    let mut paths = Vec::new(heap);
-    let mut end: u32 = 0;
-    for stage in stages {
-        paths.push(Path {
-            end,
-            delay: stage.delay,
-        })?;
-        end = end.saturating_add(1);
+impl Assigned {
+    // The power, and no paths yet.
+    fn findings(&self, heap: Global) -> Result<Findings, AllocError> {
+        let stages = self.stages.iter().map(|stage| stage.choice.power);
+        let shifters = self.steps.iter().filter_map(|step| step.shifter);
+        Ok(Findings {
+            power: stages
+                .chain(shifters.map(|shifter| shifter.power))
+                .fold(0, |sum: u32, power| sum.saturating_add(power)),
+            shifters: self
+                .steps
+                .iter()
+                .filter(|step| step.shifter.is_some())
+                .count(),
+            paths: 0,
+            longest: 0,
+            arrivals: vec![in heap; 0; self.stages.len()]?,
+        })
     }
-    Ok(paths)
-}
 
-// Over each net from its end; parallel nets are different steps.
-fn extend(
-    open: &mut Vec<Path>,
-    path: Path,
-    steps: &[Step],
-    stages: &[Stage],
-) -> Result<(), AllocError> {
-    for step in steps {
-        if step.driver == path.end {
-            if let Some(stage) = stages.get(step.receiver as usize) {
-                let begins = path.delay.saturating_add(step.delay);
-                open.push(Path {
-                    end: step.receiver,
-                    delay: begins.saturating_add(stage.delay),
-                })?;
-            }
-        }
+    // A path may begin at any module.
+    fn one_module_paths(&self, heap: Global) -> Result<Vec<Path>, AllocError> {
+        (0u8..)
+            .zip(self.stages.iter())
+            .map(|(end, stage)| Path {
+                end,
+                delay: stage.choice.delay,
+            })
+            .collect(heap)
     }
-    Ok(())
+
+    // Over each net from its end; parallel nets are different steps.
+    fn extend(&self, open: &mut Vec<Path>, path: Path) -> Result<(), AllocError> {
+        open.extend(self.steps.iter().filter_map(|step| self.over(path, step)))
+    }
+
+    fn over(&self, path: Path, step: &Step) -> Option<Path> {
+        let Ends { driver, receiver } = step.ends;
+        if driver != path.end {
+            return None;
+        }
+        let stage = self.stages.get(usize::from(receiver))?;
+        let shifter = step.shifter.map_or(0, |shifter| shifter.delay);
+        let delay = path
+            .delay
+            .saturating_add(step.wire)
+            .saturating_add(shifter)
+            .saturating_add(stage.choice.delay);
+        Some(Path {
+            end: receiver,
+            delay,
+        })
+    }
 }
 
 impl Findings {
-    // The power, and no paths yet.
-    fn begin(heap: Global, stages: &[Stage], steps: &[Step]) -> Result<Findings, AllocError> {
-        let mut findings = Findings {
-            power: 0,
-            shifters: 0,
-            paths: 0,
-            longest: 0,
-            arrivals: vec![in heap; 0; stages.len()]?,
-        };
-        for stage in stages {
-            findings.power = findings.power.saturating_add(stage.power);
-        }
-        findings.add_shifters(steps);
-        Ok(findings)
-    }
-
-    fn add_shifters(&mut self, steps: &[Step]) {
-        for step in steps {
-            self.power = self.power.saturating_add(step.power);
-            if step.shifted {
-                self.shifters = self.shifters.saturating_add(1);
-            }
-        }
-    }
-
     fn note(&mut self, path: Path) {
         self.paths = self.paths.saturating_add(1);
         self.longest = self.longest.max(path.delay);
-        if let Some(arrival) = self.arrivals.get_mut(path.end as usize) {
+        if let Some(arrival) = self.arrivals.get_mut(usize::from(path.end)) {
             *arrival = (*arrival).max(path.delay);
         }
     }

@@ -1,4 +1,5 @@
 // Numbers that look random and are the same in every run.
+ghost use Rattle.std.specs.Prelude.{◌≤◌, max};
 
 #[derive(Drop)]
 pub struct Random {
@@ -21,7 +22,9 @@ impl Random {
     }
 
     // A number from `low` to `high`, both included; `low` where `high` is below it.
-    pub(crate) fn between(&mut self, low: u32, high: u32) -> u32 {
+    pub(crate) fn between(&mut self, low: u32, high: u32) -> u32
+        ensures { result ≤ max low high }
+    {
         let span = high.saturating_sub(low).saturating_add(1);
         low.saturating_add(self.next() % span)
     }
@@ -32,7 +35,7 @@ impl Random {
     }
 
     pub(crate) fn byte(&mut self, low: u8, high: u8) -> u8 {
-        (self.between(u32::from(low), u32::from(high)) & 255) as u8
+        self.between(u32::from(low), u32::from(high)) as u8
     }
 
     // The place of one of `count` things, 0 where there are none.

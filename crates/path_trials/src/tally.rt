@@ -1,5 +1,5 @@
 // What the trials have met with.
-use std::io;
+use std::fmt;
 
 pub mod assignments;
 pub mod designs;
@@ -16,16 +16,34 @@ pub struct Tally {
     pub flaws: FlawTally,
 }
 
-impl Tally {
-    pub(crate) fn print(&self, rt: &HostRuntime) -> io::Result<()> {
-        self.designs.print(rt)?;
-        self.assignments.print(rt)?;
-        self.flaws.print(rt)
+impl fmt::Display for Tally {
+    fn fmt<W: fmt::Write>(&self, f: &mut fmt::Formatter<W>) -> fmt::Result {
+        let Tally {
+            designs,
+            assignments,
+            flaws,
+        } = self;
+        write!(f, "{designs}\n{assignments}\n{flaws}")
     }
 }
 
-fn count(counter: &mut u32, happened: bool) {
-    if happened {
-        *counter = counter.saturating_add(1);
+// A number of things, which stops at its top.
+#[derive(Clone, Copy, Default)]
+struct Counter(usize);
+
+impl Counter {
+    fn add(&mut self, more: usize) {
+        self.0 = self.0.saturating_add(more);
+    }
+
+    fn add_if(&mut self, happened: bool) {
+        self.add(usize::from(happened));
+    }
+}
+
+impl fmt::Display for Counter {
+    fn fmt<W: fmt::Write>(&self, f: &mut fmt::Formatter<W>) -> fmt::Result {
+        let Counter(count) = self;
+        write!(f, "{count}")
     }
 }

@@ -1,16 +1,15 @@
 -- Blocks: what was written is read back, and what was read was written so. Assumes nothing.
 use Rattle.std.proofs.Common.{◌≡◌, ℕ, zero, suc, ◌+◌, ◌^◌, ◌<◌, ◌≤◌, Bool, true, cond, ltb, leb, List, [], ◌∷◌, ◌++◌, length, get_or, drop, None, Ok, Err, Option, Result, sym, refl, ap, ◌∙◌, subst, append_assoc, arith}
+use Rattle.std.specs.List.{list_all}
 use Rattle.std.proofs.lemmas.List.{drop_more}
 use Rattle.std.proofs.lemmas.Bool.{and_parts, and_from, leb-false, lt-leb, lt-ltb, ltb-true, le-ltb, ltb-false, eqb-true}
 use Rattle.std.proofs.lemmas.Bool.Decides.{nat_tests}
-use Rattle.netlist.specs.declared.parts.Supplies.{Supplies}
 use Rattle.netlist.specs.declared.parts.Choice.{Choice}
-use Rattle.netlist.specs.declared.parts.Menu.{Menu}
 use Rattle.netlist.specs.declared.parts.Net.{Net}
 use Rattle.netlist.specs.declared.refusal.Refusal.{Refusal}
 use Rattle.netlist.specs.declared.refusal.Refusal.TheVariants.{EndsEarly, WrongMap, Limit, Order, WrongMenu, WrongEnds}
-use Rattle.netlist.specs.Slots.{bit}
-use Rattle.netlist.specs.Netlist.{every, is_zero, supplies_lawful, voltage_in_limits, voltage_follows, choice_in_limits, choice_follows, no_choice, is_no_choice, names_supplies, menu_lawful, joins, net_lawful}
+use Rattle.netlist.specs.Slots.{bit, Supplies, Menu}
+use Rattle.netlist.specs.Netlist.{is_zero, supplies_lawful, voltage_in_limits, voltage_follows, choice_in_limits, choice_follows, no_choice, is_no_choice, names_supplies, menu_lawful, joins, net_lawful}
 use Rattle.netlist.specs.Calls.{net_of}
 use Rattle.netlist.proofs.Kept.{kept_supplies, supplies_lawful_from, kept_menu, menu_lawful_from}
 use Rattle.faults.specs.declared.FieldFault.{FieldFault}
@@ -100,38 +99,44 @@ table_back none width fine follows blank spell bs entry E map xs at t n l h =
     let g = slots_back none width fine follows blank spell bs entry E xs map 0 None at t l h in
     (g.0, subst (λ k. slots none width entry k map 0 None at ≡ Ok (xs, g.0)) n g.1, g.2)
 
-pub supplies_read_back : (map : ℕ) (r : Read (List ℕ) FieldFault) (vs : List ℕ) (to : ℕ) → r ≡ Ok (vs, to) → supplies_read map r ≡ Ok (record { map = map; voltages = vs }, to)
+pub supplies_read_back : (map : ℕ) (r : Read (List ℕ) FieldFault) (vs : List ℕ) (to : ℕ) → r ≡ Ok (vs, to) → supplies_read map r ≡ Ok (record { map = map; values = vs }, to)
 supplies_read_back map r vs to e = rw e
 
-pub menu_read_back : (map : ℕ) (r : Read (List Choice) FieldFault) (cs : List Choice) (to : ℕ) → r ≡ Ok (cs, to) → menu_read map r ≡ Ok (record { map = map; choices = cs }, to)
+pub menu_read_back : (map : ℕ) (r : Read (List Choice) FieldFault) (cs : List Choice) (to : ℕ) → r ≡ Ok (cs, to) → menu_read map r ≡ Ok (record { map = map; values = cs }, to)
 menu_read_back map r cs to e = rw e
 
 pub supplies_back : (s : Supplies) (bs t : List ℕ) (at : ℕ) → supplies_lawful s ≡ true → drop at bs ≡ supplies_bytes s ++ t → Gives bs t (supplies_block bs at) s
 supplies_back s bs t at l h =
     let k = kept_supplies s l in
-    block_back any_map WrongMap (supplies_fields bs) bs (slot_bytes (spelled 2) s.map 0 s.voltages ++ t) t s.map at s (lt-ltb s.map 256 k.byte) h (λ q.
-    let g = table_back 0 2 voltage_in_limits voltage_follows is_zero (spelled 2) bs (voltage_entry bs) (voltages_back bs) s.map s.voltages (at + 1) t k.eight (record { limits = k.limits; order = k.order; clean = k.zeros }) q in
-    (g.0, supplies_read_back s.map (slots 0 2 (voltage_entry bs) 8 s.map 0 None (at + 1)) s.voltages g.0 g.1, g.2))
+    block_back any_map WrongMap (supplies_fields bs) bs (slot_bytes (spelled 2) s.map 0 s.values ++ t) t s.map at s (lt-ltb s.map 256 k.byte) h (λ q.
+    let g = table_back 0 2 voltage_in_limits voltage_follows is_zero (spelled 2) bs (voltage_entry bs) (voltages_back bs) s.map s.values (at + 1) t k.eight (record { limits = k.limits; order = k.order; clean = k.zeros }) q in
+    (g.0, supplies_read_back s.map (slots 0 2 (voltage_entry bs) 8 s.map 0 None (at + 1)) s.values g.0 g.1, g.2))
 
 pub supplies_took : (s : Supplies) (bs : List ℕ) (at to : ℕ) → Bytes bs → supplies_block bs at ≡ Ok (s, to) → (supplies_lawful s ≡ true) × Took bs at (supplies_bytes s) to
 supplies_took s bs at to b h =
     let m = get_or bs at 0 in
     let p = block_took any_map WrongMap (supplies_fields bs) bs at s to h in
     let q = supplies_read_took m (slots 0 2 (voltage_entry bs) 8 m 0 None (at + 1)) s to p.fields_read in
-    let r = slots_took 0 2 voltage_in_limits voltage_follows is_zero (spelled 2) bs (voltage_entry bs) (voltages_took bs b) 8 m 0 None (at + 1) s.voltages to p.map_took.inside_it q.1 in
-    let w = took_both bs (m ∷ []) (slot_bytes (spelled 2) m 0 s.voltages) at (at + 1) to p.map_took r.took in
-    let good = supplies_lawful_from (record { map = m; voltages = s.voltages }) (record { byte = ltb-true m 256 p.map_fine; eight = r.long; limits = r.lawful.limits; order = r.lawful.order; zeros = r.lawful.clean }) in
-    (subst (λ k. supplies_lawful (record { map = k; voltages = s.voltages }) ≡ true) (sym q.0) good, subst (λ k. Took bs at (k ∷ slot_bytes (spelled 2) k 0 s.voltages) to) (sym q.0) w)
+    let r = slots_took 0 2 voltage_in_limits voltage_follows is_zero (spelled 2) bs (voltage_entry bs) (voltages_took bs b) 8 m 0 None (at + 1) s.values to p.map_took.inside_it q.1 in
+    let w = took_both bs (m ∷ []) (slot_bytes (spelled 2) m 0 s.values) at (at + 1) to p.map_took r.took in
+    let good = supplies_lawful_from (record { map = m; values = s.values }) (record { byte = ltb-true m 256 p.map_fine; eight = r.long; limits = r.lawful.limits; order = r.lawful.order; zeros = r.lawful.clean }) in
+    (subst (λ k. supplies_lawful (record { map = k; values = s.values }) ≡ true) (sym q.0) good, subst (λ k. Took bs at (k ∷ slot_bytes (spelled 2) k 0 s.values) to) (sym q.0) w)
   where
-    supplies_read_took : (m : ℕ) (r : Read (List ℕ) FieldFault) (s : Supplies) (to : ℕ) → supplies_read m r ≡ Ok (s, to) → (s.map ≡ m) × (r ≡ Ok (s.voltages, to))
-    supplies_read_took m (Ok g) s to h = let e = same_read (record { map = m; voltages = g.0 }) s g.1 to h in (sym (ap (λ (k : Supplies). k.map) e.0), ap (λ (k : Supplies). Ok (k.voltages, g.1)) e.0 ∙ ap (λ k. Ok (s.voltages, k)) e.1)
-    supplies_read_took m (Err e) s to h = absurd (let z : ◌≡◌ {A = ℕ} 0 1 = cc in omega arith)
+    supplies_read_took : (m : ℕ) (r : Read (List ℕ) FieldFault) (s : Supplies) (to : ℕ) → supplies_read m r ≡ Ok (s, to) → (s.map ≡ m) × (r ≡ Ok (s.values, to))
+    supplies_read_took m (Ok g) s to h = let e = same_read (record { map = m; values = g.0 }) s g.1 to h in (sym (ap (λ (k : Supplies). k.map) e.0), ap (λ (k : Supplies). Ok (k.values, g.1)) e.0 ∙ ap (λ k. Ok (s.values, k)) e.1)
+    supplies_read_took m (Err e) s to h = cc
 
 -- Modules
+all_zero : (c : Choice) → c.delay ≡ 0 → c.power ≡ 0 → c ≡ no_choice
+all_zero c d p = ap (λ k. record { delay = k; power = c.power }) d ∙ ap (λ k. record { delay = 0; power = k }) p
+
+choice_is : (bs : List ℕ) (at : ℕ) (c : Choice) → number 2 bs at ≡ c.delay → number 4 bs (at + 2) ≡ c.power → choice_at bs at ≡ c
+choice_is bs at c d p = ap (λ k. record { delay = k; power = number 4 bs (at + 2) }) d ∙ ap (λ k. record { delay = c.delay; power = k }) p
+
 choices_back : (bs : List ℕ) → EntryBack no_choice 6 choice_in_limits choice_follows is_no_choice choice_bytes bs (choice_entry bs)
 choices_back bs = record {
   wide = λ c. refl;
-  nothing = λ c h. let d : c.delay ≡ 0 = grind (arith, nat_tests) in let p : c.power ≡ 0 = grind (arith, nat_tests) in ap (λ k. record { delay = k; power = c.power }) d ∙ ap (λ k. record { delay = 0; power = k }) p;
+  nothing = λ c h. all_zero c (grind (arith, nat_tests)) (grind (arith, nat_tests));
   back = λ last c at t f o h.
       let ld : c.delay < 256 ^ 2 = grind (arith, nat_tests) in
       let lp : c.power < 256 ^ 4 = grind (arith, nat_tests) in
@@ -140,7 +145,7 @@ choices_back bs = record {
       let d = number_back 2 c.delay bs (spelled 4 c.power ++ t) at ld h in
       let q = past_spelled 2 c.delay bs (spelled 4 c.power ++ t) at h in
       let p = number_back 4 c.power bs t (at + 2) lp q in
-      let same : choice_at bs at ≡ c = ap (λ k. record { delay = k; power = number 4 bs (at + 2) }) d ∙ ap (λ k. record { delay = c.delay; power = k }) p in
+      let same = choice_is bs at c d p in
       rw e (ap (checked choice_in_limits choice_follows last at) same ∙ checked_back choice_in_limits choice_follows last at c f o);
 }
 
@@ -161,23 +166,23 @@ choices_took bs b = record {
 pub menu_back : (supplies : ℕ) (m : Menu) (bs t : List ℕ) (at : ℕ) → menu_lawful supplies m ≡ true → drop at bs ≡ menu_bytes m ++ t → Gives bs t (menu_block supplies bs at) m
 menu_back supplies m bs t at l h =
     let k = kept_menu supplies m l in
-    block_back (names_supplies supplies) WrongMenu (menu_fields bs) bs (slot_bytes choice_bytes m.map 0 m.choices ++ t) t m.map at m k.named h (λ q.
-    let g = table_back no_choice 6 choice_in_limits choice_follows is_no_choice choice_bytes bs (choice_entry bs) (choices_back bs) m.map m.choices (at + 1) t k.eight (record { limits = k.limits; order = k.order; clean = k.zeros }) q in
-    (g.0, menu_read_back m.map (slots no_choice 6 (choice_entry bs) 8 m.map 0 None (at + 1)) m.choices g.0 g.1, g.2))
+    block_back (names_supplies supplies) WrongMenu (menu_fields bs) bs (slot_bytes choice_bytes m.map 0 m.values ++ t) t m.map at m k.named h (λ q.
+    let g = table_back no_choice 6 choice_in_limits choice_follows is_no_choice choice_bytes bs (choice_entry bs) (choices_back bs) m.map m.values (at + 1) t k.eight (record { limits = k.limits; order = k.order; clean = k.zeros }) q in
+    (g.0, menu_read_back m.map (slots no_choice 6 (choice_entry bs) 8 m.map 0 None (at + 1)) m.values g.0 g.1, g.2))
 
 pub menu_took : (supplies : ℕ) (m : Menu) (bs : List ℕ) (at to : ℕ) → Bytes bs → menu_block supplies bs at ≡ Ok (m, to) → (menu_lawful supplies m ≡ true) × Took bs at (menu_bytes m) to
 menu_took supplies m bs at to b h =
     let map = get_or bs at 0 in
     let p = block_took (names_supplies supplies) WrongMenu (menu_fields bs) bs at m to h in
     let q = menu_read_took map (slots no_choice 6 (choice_entry bs) 8 map 0 None (at + 1)) m to p.fields_read in
-    let r = slots_took no_choice 6 choice_in_limits choice_follows is_no_choice choice_bytes bs (choice_entry bs) (choices_took bs b) 8 map 0 None (at + 1) m.choices to p.map_took.inside_it q.1 in
-    let w = took_both bs (map ∷ []) (slot_bytes choice_bytes map 0 m.choices) at (at + 1) to p.map_took r.took in
-    let good = menu_lawful_from supplies (record { map = map; choices = m.choices }) (record { named = p.map_fine; eight = r.long; limits = r.lawful.limits; order = r.lawful.order; zeros = r.lawful.clean }) in
-    (subst (λ k. menu_lawful supplies (record { map = k; choices = m.choices }) ≡ true) (sym q.0) good, subst (λ k. Took bs at (k ∷ slot_bytes choice_bytes k 0 m.choices) to) (sym q.0) w)
+    let r = slots_took no_choice 6 choice_in_limits choice_follows is_no_choice choice_bytes bs (choice_entry bs) (choices_took bs b) 8 map 0 None (at + 1) m.values to p.map_took.inside_it q.1 in
+    let w = took_both bs (map ∷ []) (slot_bytes choice_bytes map 0 m.values) at (at + 1) to p.map_took r.took in
+    let good = menu_lawful_from supplies (record { map = map; values = m.values }) (record { named = p.map_fine; eight = r.long; limits = r.lawful.limits; order = r.lawful.order; zeros = r.lawful.clean }) in
+    (subst (λ k. menu_lawful supplies (record { map = k; values = m.values }) ≡ true) (sym q.0) good, subst (λ k. Took bs at (k ∷ slot_bytes choice_bytes k 0 m.values) to) (sym q.0) w)
   where
-    menu_read_took : (map : ℕ) (r : Read (List Choice) FieldFault) (m : Menu) (to : ℕ) → menu_read map r ≡ Ok (m, to) → (m.map ≡ map) × (r ≡ Ok (m.choices, to))
-    menu_read_took map (Ok g) m to h = let e = same_read (record { map = map; choices = g.0 }) m g.1 to h in (sym (ap (λ (k : Menu). k.map) e.0), ap (λ (k : Menu). Ok (k.choices, g.1)) e.0 ∙ ap (λ k. Ok (m.choices, k)) e.1)
-    menu_read_took map (Err e) m to h = absurd (let z : ◌≡◌ {A = ℕ} 0 1 = cc in omega arith)
+    menu_read_took : (map : ℕ) (r : Read (List Choice) FieldFault) (m : Menu) (to : ℕ) → menu_read map r ≡ Ok (m, to) → (m.map ≡ map) × (r ≡ Ok (m.values, to))
+    menu_read_took map (Ok g) m to h = let e = same_read (record { map = map; values = g.0 }) m g.1 to h in (sym (ap (λ (k : Menu). k.map) e.0), ap (λ (k : Menu). Ok (k.values, g.1)) e.0 ∙ ap (λ k. Ok (m.values, k)) e.1)
+    menu_read_took map (Err e) m to h = cc
 
 -- Nets
 pub net_back : (modules : ℕ) (n : Net) (bs t : List ℕ) (at : ℕ) → modules ≤ 64 → net_lawful modules n ≡ true → drop at bs ≡ net_bytes n ++ t → Gives bs t (net_block modules bs at) n
@@ -230,11 +235,11 @@ net_took modules n bs at to b h =
 -- Any number of blocks of one kind
 pub blocks_back : {T : Type 0} (good : T → Bool) (spell : T → List ℕ) (one : ℕ → Read T BlockFault) (bs : List ℕ) →
     ((x : T) (at : ℕ) (t : List ℕ) → good x ≡ true → drop at bs ≡ spell x ++ t → Gives bs t (one at) x) →
-    (xs : List T) (b at : ℕ) (t : List ℕ) → every good xs ≡ true → drop at bs ≡ all_bytes spell xs ++ t → Gives bs t (blocks one (length xs) b at) xs
+    (xs : List T) (b at : ℕ) (t : List ℕ) → list_all good xs ≡ true → drop at bs ≡ all_bytes spell xs ++ t → Gives bs t (blocks one (length xs) b at) xs
 unfolding blocks
 blocks_back good spell one bs each [] b at t h e = (at, refl, e)
 blocks_back good spell one bs each (x ∷ xs) b at t h e =
-    let p = and_parts (good x) (every good xs) h in
+    let p = and_parts (good x) (list_all good xs) h in
     let e2 = e ∙ append_assoc (spell x) (all_bytes spell xs) t in
     let g = gives_inside (Block b) bs (all_bytes spell xs ++ t) (one at) x (each x at (all_bytes spell xs ++ t) p.0 e2) in
     let r = blocks_back good spell one bs each xs (b + 1) g.0 t p.1 g.2 in
@@ -243,7 +248,7 @@ blocks_back good spell one bs each (x ∷ xs) b at t h e =
 
 pub record BlocksTook {T : Type 0} (good : T → Bool) (spell : T → List ℕ) (bs : List ℕ) (k at : ℕ) (xs : List T) (to : ℕ) : Type 0 where
   pub long : length xs ≡ k
-  pub lawful : every good xs ≡ true
+  pub lawful : list_all good xs ≡ true
   pub took : Took bs at (all_bytes spell xs) to
 
 pub blocks_took : {T : Type 0} (good : T → Bool) (spell : T → List ℕ) (one : ℕ → Read T BlockFault) (bs : List ℕ) →
@@ -264,6 +269,6 @@ blocks_took good spell one bs each (suc k) b at xs to l h =
     let ih = blocks_took good spell one bs each k (b + 1) mid q.0 to e.1.inside_it q.1 in
     subst (λ ys. BlocksTook good spell bs (suc k) at ys to) (sym q.2) (record {
       long = ap suc ih.long;
-      lawful = and_from (good x) (every good q.0) e.0 ih.lawful;
+      lawful = and_from (good x) (list_all good q.0) e.0 ih.lawful;
       took = took_both bs (spell x) (all_bytes spell q.0) at mid to e.1 ih.took;
     })

@@ -1,8 +1,6 @@
 -- What the calls of a reader hand out. Assumes nothing.
 use Rattle.std.proofs.Common.{◌≡◌, ℕ, zero, suc, ◌+◌, ◌<◌, ◌≤◌, Bool, true, false, cond, ltb, ◌⊎◌, List, [], length, get_or, is_ok, Ok, Err, Result, sym, refl, ap, ◌∙◌, subst, inl, inr, arith}
 use Rattle.std.proofs.lemmas.Bool.{lt-ltb, le-ltb}
-use Rattle.netlist.specs.declared.parts.Supplies.{Supplies}
-use Rattle.netlist.specs.declared.parts.Menu.{Menu}
 use Rattle.netlist.specs.declared.parts.Net.{Net}
 use Rattle.netlist.specs.Netlist.{Netlist, netlist, modules}
 use Rattle.netlist.specs.Rules.{no_menu, no_net}
@@ -21,9 +19,10 @@ use Rattle.record.specs.Record.{blocks, ended, reads_as}
 use Rattle.record.specs.Reader.{Step, step, at_start, stand_at, handed, failed, handing, from_net, from_module, with_head, with_supplies, with_menu, with_net}
 use Rattle.faults.specs.Faults.{block_of}
 use Rattle.record.specs.HandsOut.{call, head_of, AllHanded, FaultTold, HandsOut}
-use Rattle.record.proofs.Readings.{then_ok, inside_ok, ahead_ok, same_read, else_ok}
+use Rattle.record.proofs.Readings.{then_ok, ahead_ok, same_read}
 use Rattle.record.proofs.Gathered.{blocks_more, blocks_none}
-use Rattle.record.proofs.Whole.{PartsRead}
+use Rattle.record.proofs.Whole.{PartsRead, parts_of}
+use Rattle.netlist.specs.Slots.{Supplies, Menu}
 
 call_first : (bytes : List ℕ) (s : Stand) (p : Block) → call 0 bytes s p ≡ step bytes s p
 unfolding call
@@ -39,12 +38,12 @@ then_err (Ok y) next e h = inr (y, refl, h)
 then_err (Err d) next e h = let q : d ≡ e = cc in inl (ap Err q)
 
 ahead_err : {T E : Type 0} (x : T) (r : Read (List T) E) (e : E) → ahead x r ≡ Err e → r ≡ Err e
-ahead_err x (Ok g) e h = absurd (let z : ◌≡◌ {A = ℕ} 0 1 = cc in omega arith)
+ahead_err x (Ok g) e h = cc
 ahead_err x (Err d) e h = let q : d ≡ e = cc in ap Err q
 
 -- a block's fault names the block
 named : {T : Type 0} (b : ℕ) (r : Result T BlockFault) (f : RecordFault) → inside (fault.Block b) r ≡ Err f → block_of f ≡ b
-named b (Ok y) f h = absurd (let z : ◌≡◌ {A = ℕ} 0 1 = cc in omega arith)
+named b (Ok y) f h = cc
 named b (Err d) f h = let q : fault.Block b d ≡ f = cc in sym (ap block_of q)
 
 -- what is read of blocks of one kind
@@ -56,7 +55,7 @@ blocks_long one (suc k) b at xs to e =
     ap length q.2 ∙ ap suc (blocks_long one k (b + 1) p.0.1 q.0 to q.1)
 
 blocks_named : {T : Type 0} (one : ℕ → Read T BlockFault) (k b at : ℕ) (f : RecordFault) → blocks one k b at ≡ Err f → b ≤ block_of f
-blocks_named one zero b at f e = let h = sym (blocks_none one b at) ∙ e in absurd (let z : ◌≡◌ {A = ℕ} 0 1 = cc in omega arith)
+blocks_named one zero b at f e = let h = sym (blocks_none one b at) ∙ e in cc
 blocks_named one (suc k) b at f e =
     elim (then_err (inside (fault.Block b) (one at)) _ f (sym (blocks_more one k b at) ∙ e)) [
       | inl h ↦ (let q = named b (one at) f h in omega arith)
@@ -149,7 +148,7 @@ from_fault bytes f s p b n e = from_failed bytes (Told f) b s p f e (λ k l. tol
 
 module _ (bytes : List ℕ) {T : Type 0} (one : ℕ → Read T BlockFault) (o : Kind) (put : Block → T → Block) (count b : ℕ) (S : ℕ → ℕ → Stand) (sec : Section bytes one o put count b S) (f : RecordFault) where
   section_refused : (k i at : ℕ) (p : Block) → i + k ≡ count → blocks one k (b + i) at ≡ Err f → From bytes (Told f) (b + i) (S i at) p
-  section_refused zero i at p n e = let h = sym (blocks_none one (b + i) at) ∙ e in absurd (let z : ◌≡◌ {A = ℕ} 0 1 = cc in omega arith)
+  section_refused zero i at p n e = let h = sym (blocks_none one (b + i) at) ∙ e in cc
   section_refused (suc k) i at p n e =
       elim (then_err (inside (fault.Block (b + i)) (one at)) _ f (sym (blocks_more one k (b + i) at) ∙ e)) [
         | inl h ↦ from_fault bytes f (S i at) p (b + i) (named (b + i) (one at) f h) (section_fails bytes one o put count b S sec i at p f (omega arith) h)
@@ -321,7 +320,7 @@ record ToldFrom (bytes : List ℕ) (f : RecordFault) (b : ℕ) (s : Stand) : Typ
 
 followed : {T E : Type 0} (b : Bool) (x : T) (e f : E) → cond b (Err e) (Ok x) ≡ Err f → (b ≡ true) × (e ≡ f)
 followed true x e f h = (refl, cc)
-followed false x e f h = absurd (let z : ◌≡◌ {A = ℕ} 0 1 = cc in omega arith)
+followed false x e f h = cc
 
 module _ (bytes : List ℕ) (f : RecordFault) where
   end_told : (h : Head) (supplies at : ℕ) (n : Netlist) → ended bytes (2 + h.modules + h.nets) at n ≡ Err f → ToldFrom bytes f (2 + h.modules + h.nets) (net_stand h supplies h.nets at)
@@ -410,39 +409,6 @@ module _ (bytes : List ℕ) (f : RecordFault) where
     where
       told : (k : ℕ) → Told f k (call k bytes at_start q)
       told k = let z : 0 + k ≡ k = omega arith in subst (λ c. Told f c (call k bytes at_start q)) z ((head_told e).from q k)
-
--- The parts of an accepted record
-record PartsOf (bytes : List ℕ) (n : Netlist) : Type 0 where
-  h : Head
-  s : Supplies
-  ms : List Menu
-  ns : List Net
-  to : ℕ
-  read : PartsRead bytes h s ms ns to
-  over : ltb to (length bytes) ≡ false
-  same : netlist h.terms s ms ns ≡ n
-
-parts_of : (bytes : List ℕ) (n : Netlist) → reads_as bytes ≡ Ok n → PartsOf bytes n
-parts_of bytes n e =
-    let p1 = then_ok (inside (fault.Block 0) (head_block bytes 0)) _ n e in
-    let h = p1.0.0 in
-    let a = p1.0.1 in
-    let p2 = then_ok (inside (fault.Block 1) (supplies_block bytes a)) _ n p1.2 in
-    let s = p2.0.0 in
-    let b = p2.0.1 in
-    let p3 = then_ok (blocks (menu_block s.map bytes) h.modules 2 b) _ n p2.2 in
-    let p4 = then_ok (blocks (net_block h.modules bytes) h.nets (2 + h.modules) p3.0.1) _ n p3.2 in
-    let p5 = else_ok (ltb p4.0.1 (length bytes)) (Ok (netlist h.terms s p3.0.0 p4.0.0)) (fault.BytesFollow (2 + h.modules + h.nets) p4.0.1) n p4.2 in
-    record {
-      h = h;
-      s = s;
-      ms = p3.0.0;
-      ns = p4.0.0;
-      to = p4.0.1;
-      read = record { a = a; b = b; c = p3.0.1; head = inside_ok (fault.Block 0) (head_block bytes 0) (h, a) p1.1; supplies = inside_ok (fault.Block 1) (supplies_block bytes a) (s, b) p2.1; menus = p3.1; nets = p4.1 };
-      over = p5.0;
-      same = (let q = p5.1 in cc);
-    }
 
 pub hands_out : (bytes : List ℕ) (p : Block) → HandsOut bytes p
 hands_out bytes p = record {

@@ -3,7 +3,6 @@ pub mod Readings
 pub mod FieldsBack
 pub mod SlotsBack
 pub mod Maps
-pub mod Lowest
 pub mod BlocksBack
 pub mod OneRecord
 pub mod Filled

@@ -1,20 +1,10 @@
 -- Map bytes, by tests that are computed over each of them. Assumes nothing.
-use Rattle.std.proofs.Common.{◌≡◌, ℕ, zero, suc, ◌+◌, ◌<◌, Bool, true, false, cond, not, ◌&&◌, ◌||◌, eqb, ltb, sym, refl, ap, ◌∙◌, ⊎_elim, le_of_suc-le-suc, not-suc-le-zero, eq-or-lt_of_le, arith}
-use Rattle.std.proofs.lemmas.Bool.{and_parts, ltb-true, eqb-true, both_ways}
+use Rattle.std.proofs.Common.{◌≡◌, ℕ, ◌+◌, ◌<◌, Bool, true, false, cond, not, ◌&&◌, ◌||◌, eqb, ltb, refl, ap, ◌∙◌, arith}
+use Rattle.std.proofs.lemmas.Bool.{and_parts, ltb-true, eqb-true}
 use Rattle.std.proofs.lemmas.Bool.Decides.{nat_tests}
 use Rattle.netlist.specs.Slots.{bit}
+use Rattle.netlist.proofs.Tests.{up_to, at_each, or_second, same, same_true}
 use Rattle.record.specs.Blocks.{head_map, net_map}
-
--- the test passes at each number below n
-abbrev pub up_to : (ℕ → Bool) → ℕ → Bool
-up_to f zero = true
-up_to f (suc k) = f k && up_to f k
-
-pub at_each : (f : ℕ → Bool) (k : ℕ) → up_to f k ≡ true → (n : ℕ) → n < k → f n ≡ true
-at_each f zero t n h = absurd (not-suc-le-zero h)
-at_each f (suc k) t n h =
-    let p = and_parts (f k) (up_to f k) t in
-    ⊎_elim (λ (e : n ≡ k). ap f e ∙ p.0) (λ (l : n < k). at_each f k p.1 n l) (eq-or-lt_of_le (le_of_suc-le-suc h))
 
 -- the test passes at both truth values
 abbrev both : (Bool → Bool) → Bool
@@ -23,16 +13,6 @@ both f = f true && f false
 at_both : (f : Bool → Bool) → both f ≡ true → (b : Bool) → f b ≡ true
 at_both f h true = (and_parts (f true) (f false) h).0
 at_both f h false = (and_parts (f true) (f false) h).1
-
-abbrev pub same : Bool → Bool → Bool
-same true x = x
-same false x = not x
-
-pub same_true : (x y : Bool) → same x y ≡ true → x ≡ y
-same_true true true h = refl
-same_true true false h = sym h
-same_true false false h = refl
-same_true false true h = h
 
 twice_not : (a b : Bool) → a ≡ not b → not a ≡ b
 twice_not a true h = ap not h
@@ -78,10 +58,6 @@ head_from_bits m = head_weights (not (bit m 1)) (not (bit m 2)) (not (bit m 3)) 
 
 head_bits_all : up_to (λ m. not (head_map m) || eqb m (head_from_bits m)) 32 ≡ true
 head_bits_all = refl
-
-pub or_second : (a b : Bool) → a ≡ true → (not a || b) ≡ true → b ≡ true
-or_second true b e h = h
-or_second false b e h = absurd (both_ways false refl e)
 
 pub head_map_is : (m : ℕ) (a b c d : Bool) → HeadMap m a b c d → m ≡ head_weights a b c d
 head_map_is m a b c d h =

@@ -1,21 +1,23 @@
 -- One record: what is written reads back as the design, and what is read is written back byte for byte. Assumes nothing.
 use Rattle.std.proofs.Common.{◌≡◌, ℕ, ◌+◌, ◌^◌, ◌<◌, ◌≤◌, true, false, ltb, leb, List, [], ◌∷◌, ◌++◌, length, get_or, drop, Ok, sym, refl, ap, ◌∙◌, subst, append_assoc, arith}
+use Rattle.std.specs.List.{list_all}
 use Rattle.std.proofs.lemmas.List.{append-nil, length-drop, drop_all}
 use Rattle.std.proofs.lemmas.Bool.{le-ltb, ltb-false, le-leb, leb-true}
 use Rattle.std.proofs.lemmas.Bool.Decides.{nat_tests}
 use Rattle.netlist.specs.declared.parts.Terms.{Terms}
 use Rattle.netlist.specs.declared.refusal.Refusal.TheVariants.{WrongMap}
 use Rattle.netlist.specs.Slots.{bit}
-use Rattle.netlist.specs.Netlist.{Netlist, netlist, modules, every, within, is_zero, terms_lawful, supplies_lawful, menu_lawful, net_lawful, lawful}
+use Rattle.netlist.specs.Netlist.{Netlist, netlist, modules, within, is_zero, terms_lawful, supplies_lawful, menu_lawful, net_lawful, lawful}
 use Rattle.netlist.specs.Calls.{terms_of}
 use Rattle.netlist.proofs.Kept.{Kept, kept, lawful_from}
-use Rattle.faults.specs.declared.RecordFault.TheVariants.{Block, BytesFollow}
+use Rattle.faults.specs.declared.RecordFault.TheVariants.{Block}
 use Rattle.record.specs.declared.head.Head.{Head}
 use Rattle.record.specs.Steps.{inside}
 use Rattle.record.specs.Fields.{Bytes, spelled, required, optional}
 use Rattle.record.specs.Blocks.{head_map, head_fields, head_block, supplies_block, menu_block, net_block}
 use Rattle.record.specs.Record.{blocks, reads_as, record_of, head_bytes, supplies_bytes, menu_bytes, net_bytes, all_bytes, spelled_unless_zero}
-use Rattle.record.proofs.Readings.{then_ok, same_read, inside_ok, else_ok, Took, took_both, Gives, gives_then, gives_inside}
+use Rattle.record.proofs.Whole.{parts_of}
+use Rattle.record.proofs.Readings.{then_ok, same_read, Took, took_both, Gives, gives_then, gives_inside}
 use Rattle.record.proofs.FieldsBack.{required_back, required_took, optional_back, optional_took}
 use Rattle.record.proofs.Maps.{head_weights, head_map_of, head_map_is}
 use Rattle.record.proofs.BlocksBack.{block_back, block_took, supplies_back, supplies_took, menu_back, menu_took, net_back, net_took, blocks_back, BlocksTook, blocks_took}
@@ -183,27 +185,17 @@ whole bs h n a b c to et ht sl st mt nt over =
     let r1 = subst (λ (t : Terms). HeadLawful t.cycle t.shifter.delay t.shifter.power h.modules h.nets) (sym et) r in
     let r2 = subst (λ x. HeadLawful n.terms.cycle n.terms.shifter.delay n.terms.shifter.power x h.nets) (sym m) r1 in
     let r3 = subst (λ x. HeadLawful n.terms.cycle n.terms.shifter.delay n.terms.shifter.power (modules n) x) (sym k) r2 in
-    (sym same, lawful_from n (record { terms = lawful_terms n r3; supplies = sl; few_modules = leb-true (modules n) 64 r3.modules_ok; menus = mt.lawful; few_nets = leb-true (length n.nets) 256 r3.nets_ok; nets = subst (λ x. every (net_lawful x) n.nets ≡ true) (sym m) nt.lawful }))
+    (sym same, lawful_from n (record { terms = lawful_terms n r3; supplies = sl; few_modules = leb-true (modules n) 64 r3.modules_ok; menus = mt.lawful; few_nets = leb-true (length n.nets) 256 r3.nets_ok; nets = subst (λ x. list_all (net_lawful x) n.nets ≡ true) (sym m) nt.lawful }))
 
 pub reads_back : (bs : List ℕ) (n : Netlist) → Bytes bs → reads_as bs ≡ Ok n → (record_of n ≡ bs) × (lawful n ≡ true)
 reads_back bs n y e =
-    let p1 = then_ok (inside (Block 0) (head_block bs 0)) _ n e in
-    let h = p1.0.0 in
-    let a = p1.0.1 in
-    let p2 = then_ok (inside (Block 1) (supplies_block bs a)) _ n p1.2 in
-    let s = p2.0.0 in
-    let b = p2.0.1 in
-    let p3 = then_ok (blocks (menu_block s.map bs) h.modules 2 b) _ n p2.2 in
-    let ms = p3.0.0 in
-    let c = p3.0.1 in
-    let p4 = then_ok (blocks (net_block h.modules bs) h.nets (2 + h.modules) c) _ n p3.2 in
-    let ns = p4.0.0 in
-    let to = p4.0.1 in
-    let p5 = else_ok (ltb to (length bs)) (Ok (netlist h.terms s ms ns)) (BytesFollow (2 + h.modules + h.nets) to) n p4.2 in
-    let same : netlist h.terms s ms ns ≡ n = (let q = p5.1 in cc) in
-    let ht = head_took bs 0 h a y (inside_ok (Block 0) (head_block bs 0) (h, a) p1.1) in
-    let st = supplies_took s bs a b y (inside_ok (Block 1) (supplies_block bs a) (s, b) p2.1) in
-    let mt = blocks_took (menu_lawful s.map) menu_bytes (menu_block s.map bs) bs (λ m at t k. menu_took s.map m bs at t y k) h.modules 2 b ms c st.1.inside_it p3.1 in
-    let nt = blocks_took (net_lawful h.modules) net_bytes (net_block h.modules bs) bs (λ m at t k. net_took h.modules m bs at t y k) h.nets (2 + h.modules) c ns to mt.took.inside_it p4.1 in
-    subst (λ (k : Netlist). (record_of k ≡ bs) × (lawful k ≡ true)) same
-    (whole bs h (netlist h.terms s ms ns) a b c to refl ht st.0 st.1 mt nt (ltb-false to (length bs) p5.0))
+    let p = parts_of bs n e in
+    let r = p.read in
+    let h = p.h in
+    let s = p.s in
+    let ht = head_took bs 0 h r.a y r.head in
+    let st = supplies_took s bs r.a r.b y r.supplies in
+    let mt = blocks_took (menu_lawful s.map) menu_bytes (menu_block s.map bs) bs (λ m at t k. menu_took s.map m bs at t y k) h.modules 2 r.b p.ms r.c st.1.inside_it r.menus in
+    let nt = blocks_took (net_lawful h.modules) net_bytes (net_block h.modules bs) bs (λ m at t k. net_took h.modules m bs at t y k) h.nets (2 + h.modules) r.c p.ns p.to mt.took.inside_it r.nets in
+    subst (λ (k : Netlist). (record_of k ≡ bs) × (lawful k ≡ true)) p.same
+    (whole bs h (netlist h.terms s p.ms p.ns) r.a r.b r.c p.to refl ht st.0 st.1 mt nt (ltb-false p.to (length bs) p.over))

@@ -1,15 +1,15 @@
 -- What it says of the bytes that a reading is accepted, and when one is. Assumes nothing.
-use Rattle.std.proofs.Common.{◌≡◌, ℕ, ◌≤◌, Bool, true, false, cond, List, [], ◌∷◌, ◌++◌, length, drop, Ok, Err, Result, sym, refl, ap, ◌∙◌, append_assoc, arith}
+use Rattle.std.proofs.Common.{◌≡◌, ℕ, ◌≤◌, Bool, true, false, cond, List, [], ◌∷◌, ◌++◌, length, drop, Ok, Err, Result, sym, refl, ap, ◌∙◌, append_assoc}
 use Rattle.record.specs.Steps.{Read, then_read, inside, ahead}
 
 -- Taking an accepted reading apart
 pub then_ok : {S T E : Type 0} (r : Result S E) (next : S → Result T E) (x : T) → then_read r next ≡ Ok x → (y : S) × (r ≡ Ok y) × (next y ≡ Ok x)
 then_ok (Ok y) next x h = (y, refl, h)
-then_ok (Err e) next x h = absurd (let z : ◌≡◌ {A = ℕ} 0 1 = cc in omega arith)
+then_ok (Err e) next x h = cc
 
 pub inside_ok : {T E F : Type 0} (wrap : E → F) (r : Result T E) (x : T) → inside wrap r ≡ Ok x → r ≡ Ok x
 inside_ok wrap (Ok y) x h = cc
-inside_ok wrap (Err e) x h = absurd (let z : ◌≡◌ {A = ℕ} 0 1 = cc in omega arith)
+inside_ok wrap (Err e) x h = cc
 
 -- two accepted readings are one only if value and place are
 pub same_read : {T E : Type 0} (x y : T) (a b : ℕ) → ◌≡◌ {A = Read T E} (Ok (x, a)) (Ok (y, b)) → (x ≡ y) × (a ≡ b)
@@ -17,15 +17,15 @@ same_read {T} x y a b h = let e : ◌≡◌ {A = T × ℕ} (x, a) (y, b) = cc in
 
 pub ahead_ok : {T E : Type 0} (x : T) (r : Read (List T) E) (xs : List T) (to : ℕ) → ahead x r ≡ Ok (xs, to) → (ys : List T) × (r ≡ Ok (ys, to)) × (xs ≡ x ∷ ys)
 ahead_ok x (Ok g) xs to h = let p = same_read (x ∷ g.0) xs g.1 to h in (g.0, ap (λ k. Ok (g.0, k)) p.1, sym p.0)
-ahead_ok x (Err e) xs to h = absurd (let z : ◌≡◌ {A = ℕ} 0 1 = cc in omega arith)
+ahead_ok x (Err e) xs to h = cc
 
 pub cond_ok : {T E : Type 0} (b : Bool) (r : Result T E) (e : E) (x : T) → cond b r (Err e) ≡ Ok x → (b ≡ true) × (r ≡ Ok x)
 cond_ok true r e x h = (refl, h)
-cond_ok false r e x h = absurd (let z : ◌≡◌ {A = ℕ} 0 1 = cc in omega arith)
+cond_ok false r e x h = cc
 
 pub else_ok : {T E : Type 0} (b : Bool) (r : Result T E) (e : E) (x : T) → cond b (Err e) r ≡ Ok x → (b ≡ false) × (r ≡ Ok x)
 else_ok false r e x h = (refl, h)
-else_ok true r e x h = absurd (let z : ◌≡◌ {A = ℕ} 0 1 = cc in omega arith)
+else_ok true r e x h = cc
 
 -- The bytes `e` stand from `at` up to `to`.
 pub record Took (bs : List ℕ) (at : ℕ) (e : List ℕ) (to : ℕ) : Type 0 where
@@ -53,10 +53,3 @@ gives_inside wrap bs t r v g = (g.0, rw g.1, g.2)
 
 pub gives_ahead : {T E : Type 0} (bs t : List ℕ) (x : T) (r : Read (List T) E) (xs : List T) → Gives bs t r xs → Gives bs t (ahead x r) (x ∷ xs)
 gives_ahead bs t x r xs g = (g.0, rw g.1, g.2)
-
--- a block's fault under its number, as `?` carries it
-pub numbered_err : {T E : Type 0} (b : ℕ) (r : Result T E) (e : ℕ × E) → Err e ≡ inside (λ f. (b, f)) r → (r ≡ Err e.1) × (b ≡ e.0)
-numbered_err b (Ok y) e h = absurd (let z : ◌≡◌ {A = ℕ} 0 1 = cc in omega arith)
-numbered_err {T} {E} b (Err d) e h =
-    let p : ◌≡◌ {A = ℕ × E} e (b, d) = cc in
-    (ap (λ (x : ℕ × E). Err x.1) (sym p), ap (λ (x : ℕ × E). x.0) (sym p))

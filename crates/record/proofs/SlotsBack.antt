@@ -1,8 +1,9 @@
 -- Tables of eight places: what was written is read back, and what was read was written so. Assumes nothing.
 use Rattle.std.proofs.Common.{◌≡◌, ℕ, zero, suc, ◌+◌, ◌≤◌, Bool, true, false, cond, List, [], ◌∷◌, ◌++◌, length, drop, Some, Ok, Option, Result, sym, refl, ap, ◌∙◌, subst, append_assoc}
+use Rattle.std.specs.List.{list_all}
 use Rattle.std.proofs.lemmas.Bool.{and_parts, and_from}
 use Rattle.netlist.specs.Slots.{bit, standing, absent}
-use Rattle.netlist.specs.Netlist.{every, in_order}
+use Rattle.netlist.specs.Netlist.{in_order}
 use Rattle.faults.specs.declared.FieldFault.{FieldFault}
 use Rattle.record.specs.Steps.{Read, then_read, ahead}
 use Rattle.record.specs.Blocks.{slots}
@@ -23,9 +24,9 @@ module _ {T : Type 0} (none : T) (width : ℕ) (fine : T → Bool) (follows : Op
     pub took : (last : Option T) (x : T) (at : ℕ) → entry last at ≡ Ok x → (fine x ≡ true) × (follows last x ≡ true) × Took bs at (spell x) (at + width)
 
   pub record Lawful (map i : ℕ) (last : Option T) (xs : List T) : Type 0 where
-    pub limits : every fine (standing map i xs) ≡ true
+    pub limits : list_all fine (standing map i xs) ≡ true
     pub order : in_order follows last (standing map i xs) ≡ true
-    pub clean : every blank (absent map i xs) ≡ true
+    pub clean : list_all blank (absent map i xs) ≡ true
 
   pub slots_back : EntryBack → (xs : List T) (map i : ℕ) (last : Option T) (at : ℕ) (t : List ℕ) → Lawful map i last xs → drop at bs ≡ slot_bytes spell map i xs ++ t → Gives bs t (slots none width entry (length xs) map i last at) xs
   unfolding slots
@@ -38,12 +39,12 @@ module _ {T : Type 0} (none : T) (width : ℕ) (fine : T → Bool) (follows : Op
       A : List T
       A = absent map (i + 1) xs
 
-      go : (b : Bool) → every fine (cond b (x ∷ S) S) ≡ true → in_order follows last (cond b (x ∷ S) S) ≡ true → every blank (cond b A (x ∷ A)) ≡ true →
+      go : (b : Bool) → list_all fine (cond b (x ∷ S) S) ≡ true → in_order follows last (cond b (x ∷ S) S) ≡ true → list_all blank (cond b A (x ∷ A)) ≡ true →
           drop at bs ≡ (cond b (spell x) [] ++ slot_bytes spell map (i + 1) xs) ++ t →
           ((last : Option T) (at : ℕ) (t : List ℕ) → Lawful map (i + 1) last xs → drop at bs ≡ slot_bytes spell map (i + 1) xs ++ t → Gives bs t (slots none width entry (length xs) map (i + 1) last at) xs) →
           Gives bs t (cond b (then_read (entry last at) (λ y. ahead y (slots none width entry (length xs) map (i + 1) (Some y) (at + width)))) (ahead none (slots none width entry (length xs) map (i + 1) last at))) (x ∷ xs)
       go true hf ho hc hb ih =
-          let f = and_parts (fine x) (every fine S) hf in
+          let f = and_parts (fine x) (list_all fine S) hf in
           let o = and_parts (follows last x) (in_order follows (Some x) S) ho in
           let hb2 = hb ∙ append_assoc (spell x) (slot_bytes spell map (i + 1) xs) t in
           let e = E.back last x at (slot_bytes spell map (i + 1) xs ++ t) f.0 o.0 hb2 in
@@ -53,7 +54,7 @@ module _ {T : Type 0} (none : T) (width : ℕ) (fine : T → Bool) (follows : Op
           let a = gives_ahead bs t x (slots none width entry (length xs) map (i + 1) (Some x) (at + width)) xs g in
           (a.0, rw e a.1, a.2)
       go false hf ho hc hb ih =
-          let c = and_parts (blank x) (every blank A) hc in
+          let c = and_parts (blank x) (list_all blank A) hc in
           let n = E.nothing x c.0 in
           let g = ih last at t (record { limits = hf; order = ho; clean = c.1 }) hb in
           let a = gives_ahead bs t none (slots none width entry (length xs) map (i + 1) last at) xs g in
@@ -88,7 +89,7 @@ module _ {T : Type 0} (none : T) (width : ℕ) (fine : T → Bool) (follows : Op
           subst (λ zs. SlotsTook map i last at (suc k) zs to) (sym q.2) (record {
             long = ap suc ih.long;
             lawful = record {
-              limits = rw eb (and_from (fine x) (every fine (standing map (i + 1) ys)) e.0 ih.lawful.limits);
+              limits = rw eb (and_from (fine x) (list_all fine (standing map (i + 1) ys)) e.0 ih.lawful.limits);
               order = rw eb (and_from (follows last x) (in_order follows (Some x) (standing map (i + 1) ys)) e.1 ih.lawful.order);
               clean = rw eb ih.lawful.clean;
             };
@@ -103,7 +104,7 @@ module _ {T : Type 0} (none : T) (width : ℕ) (fine : T → Bool) (follows : Op
             lawful = record {
               limits = rw eb ih.lawful.limits;
               order = rw eb ih.lawful.order;
-              clean = rw eb (and_from (blank none) (every blank (absent map (i + 1) ys)) E.nothing_is ih.lawful.clean);
+              clean = rw eb (and_from (blank none) (list_all blank (absent map (i + 1) ys)) E.nothing_is ih.lawful.clean);
             };
             took = subst (λ b. Took bs at (cond b (spell none) [] ++ slot_bytes spell map (i + 1) ys) to) (sym eb) ih.took;
           })

@@ -1,12 +1,10 @@
 -- The blocks of a record, as they are read: a map byte, then the fields of its bits, lowest first. Assumes nothing.
-use Rattle.std.specs.Prelude.{ℕ, zero, suc, ◌+◌, Bool, cond, ◌&&◌, List, [], length, Some, None, Ok, Err, Option, Result, nat_le, nat_lt, slice_index}
-use Rattle.netlist.specs.declared.parts.Supplies.{Supplies}
+use Rattle.std.specs.Prelude.{ℕ, zero, suc, ◌+◌, Bool, if◌then◌else◌, ◌&&◌, List, [], length, Some, None, Ok, Err, Option, Result, nat_le, nat_lt, slice_index}
 use Rattle.netlist.specs.declared.parts.Choice.{Choice}
-use Rattle.netlist.specs.declared.parts.Menu.{Menu}
 use Rattle.netlist.specs.declared.parts.Net.{Net}
 use Rattle.netlist.specs.declared.refusal.Refusal.{Refusal}
 use Rattle.netlist.specs.declared.refusal.Refusal.TheVariants.{EndsEarly, WrongMap, Limit, Order, WrongMenu, WrongEnds}
-use Rattle.netlist.specs.Slots.{bit}
+use Rattle.netlist.specs.Slots.{bit, Supplies, Menu}
 use Rattle.netlist.specs.Netlist.{voltage_in_limits, voltage_follows, choice_in_limits, choice_follows, no_choice, names_supplies, joins}
 use Rattle.netlist.specs.Calls.{terms_of, net_of}
 use Rattle.faults.specs.declared.FieldFault.{FieldFault}
@@ -18,11 +16,11 @@ use Rattle.record.specs.Fields.{field_fault, field, number, required, optional}
 
 -- a map: 1 where there is none
 abbrev pub map_byte : List ℕ → ℕ → Result ℕ BlockFault
-map_byte bytes at = cond (nat_le (length bytes) at) (Err (Map EndsEarly at)) (Ok (slice_index bytes at))
+map_byte bytes at = if nat_le (length bytes) at then Err (Map EndsEarly at) else Ok (slice_index bytes at)
 
 -- a map that is refused when it is read
 abbrev pub fine_map : (ℕ → Bool) → Refusal → List ℕ → ℕ → Result ℕ BlockFault
-fine_map fine why bytes at = then_read (map_byte bytes at) (λ map. cond (fine map) (Ok map) (Err (Map why at)))
+fine_map fine why bytes at = then_read (map_byte bytes at) (λ map. if fine map then Ok map else Err (Map why at))
 
 -- A block: its map, then its fields, each of which may be refused.
 abbrev pub block : {T : Type 0} → (ℕ → Bool) → Refusal → (ℕ → ℕ → Read T FieldFault) → List ℕ → ℕ → Read T BlockFault
@@ -33,14 +31,14 @@ block fine why fields bytes at = then_read (fine_map fine why bytes at) (λ map.
 unfoldable pub slots : {T : Type 0} → T → ℕ → (Option T → ℕ → Result T FieldFault) → ℕ → ℕ → ℕ → Option T → ℕ → Read (List T) FieldFault
 slots none width entry zero map i last at = Ok ([], at)
 slots none width entry (suc k) map i last at =
-    cond (bit map i)
-    (then_read (entry last at) (λ x. ahead x (slots none width entry k map (i + 1) (Some x) (at + width))))
-    (ahead none (slots none width entry k map (i + 1) last at))
+    if bit map i
+    then then_read (entry last at) (λ x. ahead x (slots none width entry k map (i + 1) (Some x) (at + width)))
+    else ahead none (slots none width entry k map (i + 1) last at)
 
 -- 5 before 6
 abbrev pub checked : {T : Type 0} → (T → Bool) → (Option T → T → Bool) → Option T → ℕ → T → Result T FieldFault
 checked fine follows last at x =
-    cond (fine x) (cond (follows last x) (Ok x) (Err (field_fault Order at))) (Err (field_fault Limit at))
+    if fine x then (if follows last x then Ok x else Err (field_fault Order at)) else Err (field_fault Limit at)
 
 -- Head: cycle time (4 bytes, required), shifter delay (2), shifter power (2), modules (1), nets (2)
 abbrev pub head_map : ℕ → Bool
@@ -66,7 +64,7 @@ abbrev pub voltage_entry : List ℕ → Option ℕ → ℕ → Result ℕ FieldF
 voltage_entry bytes last at = then_read (field 2 bytes at) (checked voltage_in_limits voltage_follows last at)
 
 abbrev pub supplies_read : ℕ → Read (List ℕ) FieldFault → Read Supplies FieldFault
-supplies_read map (Ok r) = Ok (record { map = map; voltages = r.0 }, r.1)
+supplies_read map (Ok r) = Ok (record { map = map; values = r.0 }, r.1)
 supplies_read map (Err e) = Err e
 
 abbrev pub supplies_fields : List ℕ → ℕ → ℕ → Read Supplies FieldFault
@@ -81,10 +79,12 @@ choice_at bytes at = record { delay = number 2 bytes at; power = number 4 bytes 
 
 abbrev pub choice_entry : List ℕ → Option Choice → ℕ → Result Choice FieldFault
 choice_entry bytes last at =
-    cond (nat_lt (length bytes) (at + 6)) (Err (field_fault EndsEarly at)) (checked choice_in_limits choice_follows last at (choice_at bytes at))
+    if nat_lt (length bytes) (at + 6)
+    then Err (field_fault EndsEarly at)
+    else checked choice_in_limits choice_follows last at (choice_at bytes at)
 
 abbrev pub menu_read : ℕ → Read (List Choice) FieldFault → Read Menu FieldFault
-menu_read map (Ok r) = Ok (record { map = map; choices = r.0 }, r.1)
+menu_read map (Ok r) = Ok (record { map = map; values = r.0 }, r.1)
 menu_read map (Err e) = Err e
 
 abbrev pub menu_fields : List ℕ → ℕ → ℕ → Read Menu FieldFault
@@ -104,9 +104,9 @@ abbrev pub net_fields : ℕ → List ℕ → ℕ → ℕ → Read Net FieldFault
 net_fields modules bytes map at =
     then_read (field 1 bytes at) (λ d.
     then_read (field 1 bytes (at + 1)) (λ r.
-    cond (joins modules d r)
-    (then_read (optional (bit map 2) 2 10000 bytes (at + 2)) (λ w. Ok (net_of d r w.0, w.1)))
-    (Err (field_fault WrongEnds (at + 1)))))
+    if joins modules d r
+    then then_read (optional (bit map 2) 2 10000 bytes (at + 2)) (λ w. Ok (net_of d r w.0, w.1))
+    else Err (field_fault WrongEnds (at + 1))))
 
 abbrev pub net_block : ℕ → List ℕ → ℕ → Read Net BlockFault
 net_block modules bytes = block net_map WrongMap (net_fields modules bytes) bytes

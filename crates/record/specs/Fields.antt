@@ -1,5 +1,5 @@
 -- The fields of a record: numbers, most significant byte first. Assumes nothing.
-use Rattle.std.specs.Prelude.{ℕ, zero, suc, ◌+◌, ◌*◌, ◌/◌, ◌%◌, ◌^◌, ◌<◌, Bool, cond, List, [], ◌∷◌, length, Ok, Err, Result, ◌==◌, nat_lt, slice_index}
+use Rattle.std.specs.Prelude.{ℕ, zero, suc, ◌+◌, ◌*◌, ◌/◌, ◌%◌, ◌^◌, ◌<◌, Bool, if◌then◌else◌, List, [], ◌∷◌, length, Ok, Err, Result, ◌==◌, nat_lt, slice_index}
 use Rattle.netlist.specs.declared.refusal.Refusal.{Refusal}
 use Rattle.netlist.specs.declared.refusal.Refusal.TheVariants.{EndsEarly, AbsentValue, Limit}
 use Rattle.netlist.specs.Netlist.{within}
@@ -25,11 +25,14 @@ spelled (suc width) n = n / 256 ^ width % 256 ∷ spelled width n
 
 -- a field is read when it is whole: 1 where the record ends inside it
 abbrev pub field : ℕ → List ℕ → ℕ → Result ℕ FieldFault
-field width bytes at = cond (nat_lt (length bytes) (at + width)) (Err (field_fault EndsEarly at)) (Ok (number width bytes at))
+field width bytes at = if nat_lt (length bytes) (at + width) then Err (field_fault EndsEarly at) else Ok (number width bytes at)
 
 -- a number that has to lie in its limits: 5 where it does not
+abbrev pub limited : ℕ → ℕ → ℕ → ℕ → Result ℕ FieldFault
+limited low high at n = if within low high n then Ok n else Err (field_fault Limit at)
+
 abbrev pub in_limits : ℕ → ℕ → ℕ → ℕ → ℕ → Read ℕ FieldFault
-in_limits low high width at n = cond (within low high n) (Ok (n, at + width)) (Err (field_fault Limit at))
+in_limits low high width at n = if within low high n then Ok (n, at + width) else Err (field_fault Limit at)
 
 abbrev pub required : ℕ → ℕ → ℕ → List ℕ → ℕ → Read ℕ FieldFault
 required width low high bytes at = then_read (field width bytes at) (in_limits low high width at)
@@ -37,6 +40,6 @@ required width low high bytes at = then_read (field width bytes at) (in_limits l
 -- an optional field, whose absence means 0: 4 where it is present and holds 0
 abbrev pub optional : Bool → ℕ → ℕ → List ℕ → ℕ → Read ℕ FieldFault
 optional present width high bytes at =
-    cond present
-    (then_read (field width bytes at) (λ n. cond (n == 0) (Err (field_fault AbsentValue at)) (in_limits 1 high width at n)))
-    (Ok (0, at))
+    if present
+    then then_read (field width bytes at) (λ n. if n == 0 then Err (field_fault AbsentValue at) else in_limits 1 high width at n)
+    else Ok (0, at)

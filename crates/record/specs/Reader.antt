@@ -1,8 +1,6 @@
 -- One call of a reader: what it answers, what it puts into the lent block, and where it stands after. Assumes nothing.
-use Rattle.std.specs.Prelude.{ℕ, ◌+◌, cond, List, length, Ok, Err, Result, nat_lt}
+use Rattle.std.specs.Prelude.{ℕ, ◌+◌, if◌then◌else◌, List, length, Ok, Err, Result, nat_lt}
 use Rattle.netlist.specs.Netlist.{new_terms}
-use Rattle.netlist.specs.declared.parts.Supplies.{Supplies}
-use Rattle.netlist.specs.declared.parts.Menu.{Menu}
 use Rattle.netlist.specs.declared.parts.Net.{Net}
 use Rattle.faults.specs.declared.RecordFault.{RecordFault}
 use Rattle.faults.specs.declared.RecordFault.TheVariants as fault
@@ -15,6 +13,7 @@ use Rattle.record.specs.declared.reader.State.TheVariants as state
 use Rattle.record.specs.declared.reader.Stand.{Stand}
 use Rattle.record.specs.Steps.{Read, inside}
 use Rattle.record.specs.Blocks.{head_block, supplies_block, menu_block, net_block}
+use Rattle.netlist.specs.Slots.{Supplies, Menu}
 
 pub record Step : Type 0 where
   pub answer : Result Kind RecordFault
@@ -31,9 +30,9 @@ handed k s p = record { answer = Ok k; stand = s; block = p }
 abbrev pub failed : Stand → Block → RecordFault → Step
 failed s p f = record { answer = Err f; stand = stand_at (state.Failed f) s.at s.head s.supplies; block = p }
 
--- a step by its answer, with the stand after it, and the lent block
-abbrev pub advanced : Stand → Result (Kind × Stand) RecordFault → Block → Step
-advanced s (Ok x) p = handed x.0 x.1 p
+-- a step by its answer, with the stand and the lent block after it
+abbrev pub advanced : Stand → Result Kind RecordFault → Block → Step
+advanced s (Ok k) p = handed k s p
 advanced s (Err f) p = failed s p f
 
 abbrev pub handing : {T : Type 0} → Read T RecordFault → Stand → Block → (T × ℕ → Step) → Step
@@ -42,10 +41,10 @@ handing (Err f) s p next = failed s p f
 
 -- which block comes next: the modules, then the nets, then the end
 abbrev pub from_net : Head → ℕ → State
-from_net h i = cond (nat_lt i h.nets) (state.Net i) state.End
+from_net h i = if nat_lt i h.nets then state.Net i else state.End
 
 abbrev pub from_module : Head → ℕ → State
-from_module h m = cond (nat_lt m h.modules) (state.Module m) (from_net h 0)
+from_module h m = if nat_lt m h.modules then state.Module m else from_net h 0
 
 -- the lent block with one part filled
 abbrev pub with_head : Block → Head → Block
@@ -74,7 +73,7 @@ step_from (state.Net i) bytes s p =
     handing (inside (fault.Block (2 + s.head.modules + i)) (net_block s.head.modules bytes s.at)) s p (λ x.
     handed kind.Net (stand_at (from_net s.head (i + 1)) x.1 s.head s.supplies) (with_net p x.0))
 step_from state.End bytes s p =
-    cond (nat_lt s.at (length bytes)) (failed s p (fault.BytesFollow (2 + s.head.modules + s.head.nets) s.at)) (handed kind.End s p)
+    if nat_lt s.at (length bytes) then failed s p (fault.BytesFollow (2 + s.head.modules + s.head.nets) s.at) else handed kind.End s p
 step_from (state.Failed f) bytes s p = record { answer = Err f; stand = s; block = p }
 
 abbrev pub step : List ℕ → Stand → Block → Step

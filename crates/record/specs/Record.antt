@@ -1,15 +1,13 @@
 -- The whole record: what it reads as, and the one record of a design. Assumes nothing.
-use Rattle.std.specs.Prelude.{ℕ, zero, suc, ◌+◌, cond, List, [], ◌∷◌, ◌++◌, length, take, Ok, Err, Result, nat_lt}
-use Rattle.netlist.specs.declared.parts.Supplies.{Supplies}
+use Rattle.std.specs.Prelude.{ℕ, zero, suc, ◌+◌, if◌then◌else◌, List, [], ◌∷◌, ◌++◌, length, Ok, Err, Result, nat_lt}
+use Rattle.netlist.specs.declared.slots.Slots.{Slots}
 use Rattle.netlist.specs.declared.parts.Choice.{Choice}
-use Rattle.netlist.specs.declared.parts.Menu.{Menu}
 use Rattle.netlist.specs.declared.parts.Net.{Net}
-use Rattle.netlist.specs.Slots.{bit}
+use Rattle.netlist.specs.Slots.{bit, Supplies, Menu}
 use Rattle.netlist.specs.Netlist.{Netlist, netlist, modules, is_zero}
 use Rattle.faults.specs.declared.BlockFault.{BlockFault}
 use Rattle.faults.specs.declared.RecordFault.{RecordFault}
 use Rattle.faults.specs.declared.RecordFault.TheVariants.{Block, BytesFollow}
-use Rattle.record.specs.declared.head.Head.{Head}
 use Rattle.record.specs.Steps.{Read, then_read, inside, ahead}
 use Rattle.record.specs.Fields.{spelled}
 use Rattle.record.specs.Blocks.{head_block, supplies_block, menu_block, net_block}
@@ -21,7 +19,7 @@ blocks one (suc k) b at = then_read (inside (Block b) (one at)) (λ x. ahead x.0
 
 -- 2 where bytes follow the last block
 abbrev pub ended : List ℕ → ℕ → ℕ → Netlist → Result Netlist RecordFault
-ended bytes b at n = cond (nat_lt at (length bytes)) (Err (BytesFollow b at)) (Ok n)
+ended bytes b at n = if nat_lt at (length bytes) then Err (BytesFollow b at) else Ok n
 
 -- The blocks in their order: head, supplies, modules, nets, the end.
 abbrev pub reads_as : List ℕ → Result Netlist RecordFault
@@ -41,17 +39,12 @@ abbrev pub replaced : Result Netlist RecordFault → Netlist → Netlist
 replaced (Ok n) old = n
 replaced (Err f) old = old
 
--- a design as a reader has it, head and supplies in hand, modules and nets at the front of places that its caller lent
-abbrev pub sheet : Result (Head × Supplies) RecordFault → List Menu → List Net → Result Netlist RecordFault
-sheet (Ok x) ms ns = Ok (netlist x.0.terms x.1 (take x.0.modules ms) (take x.0.nets ns))
-sheet (Err f) ms ns = Err f
-
 -- Writing: a field stands only where it says something
 abbrev pub bit_unless_zero : ℕ → ℕ → ℕ
-bit_unless_zero weight n = cond (is_zero n) 0 weight
+bit_unless_zero weight n = if is_zero n then 0 else weight
 
 abbrev pub spelled_unless_zero : ℕ → ℕ → List ℕ
-spelled_unless_zero width n = cond (is_zero n) [] (spelled width n)
+spelled_unless_zero width n = if is_zero n then [] else spelled width n
 
 abbrev pub head_bytes : Netlist → List ℕ
 head_bytes n =
@@ -64,16 +57,20 @@ head_bytes n =
 
 abbrev pub slot_bytes : {T : Type 0} → (T → List ℕ) → ℕ → ℕ → List T → List ℕ
 slot_bytes spell map i [] = []
-slot_bytes spell map i (x ∷ xs) = cond (bit map i) (spell x) [] ++ slot_bytes spell map (i + 1) xs
+slot_bytes spell map i (x ∷ xs) = (if bit map i then spell x else []) ++ slot_bytes spell map (i + 1) xs
+
+-- a table: its map, and what stands at its used places
+abbrev pub table_bytes : {T : Type 0} → (T → List ℕ) → Slots T → List ℕ
+table_bytes spell t = t.map ∷ slot_bytes spell t.map 0 t.values
 
 abbrev pub supplies_bytes : Supplies → List ℕ
-supplies_bytes s = s.map ∷ slot_bytes (spelled 2) s.map 0 s.voltages
+supplies_bytes s = table_bytes (spelled 2) s
 
 abbrev pub choice_bytes : Choice → List ℕ
 choice_bytes c = spelled 2 c.delay ++ spelled 4 c.power
 
 abbrev pub menu_bytes : Menu → List ℕ
-menu_bytes m = m.map ∷ slot_bytes choice_bytes m.map 0 m.choices
+menu_bytes m = table_bytes choice_bytes m
 
 abbrev pub net_bytes : Net → List ℕ
 net_bytes t =

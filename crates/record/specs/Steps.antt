@@ -19,7 +19,12 @@ abbrev pub ahead : {T E : Type 0} → T → Read (List T) E → Read (List T) E
 ahead x (Ok r) = Ok (x ∷ r.0, r.1)
 ahead x (Err e) = Err e
 
--- what a reader has put into the places that its caller lent, where it answers only the place after them
-abbrev pub filled : {T E : Type 0} → Result ℕ E → List T → Read (List T) E
-filled (Ok to) xs = Ok (xs, to)
-filled (Err e) xs = Err e
+-- what a reader answers, with the place at which it leaves its cursor
+abbrev pub placed : {T E : Type 0} → Result T E → ℕ → Read T E
+placed (Ok x) to = Ok (x, to)
+placed (Err e) to = Err e
+
+-- what a reader has put into the places that its caller lent, with the place at which it leaves its cursor
+abbrev pub filled : {T E : Type 0} → Result (Unit {0}) E → List T → ℕ → Read (List T) E
+filled (Ok done) xs to = Ok (xs, to)
+filled (Err e) xs to = Err e

@@ -1,168 +1,174 @@
-// Reads the blocks of a record. `at` is the place of a block's map, and each reader answers the place after its block.
-ghost use Rattle.std.specs.Prelude.{◌≡◌, ◌+◌, ◌<◌, ◌≤◌, length, IfOk, OnOk};
-ghost use Rattle.record.specs.Steps.{inside};
+// Reads the blocks of a record. A reader leaves the cursor after its block.
+ghost use Rattle.std.specs.Prelude.{◌≡◌, ◌+◌, ◌≤◌, IfOk, OnOk};
+ghost use Rattle.record.specs.Steps.{placed};
 ghost use Rattle.record.specs.Blocks.{map_byte, head_fields, head_block, net_fields, net_block, voltage_entry, supplies_fields, supplies_block};
 
-use crate::field::{number, optional_number, required_number};
+use crate::cursor::Cursor;
+use crate::entry::checked;
+use crate::field::Field;
 use crate::head::Head;
 use faults::{BlockFault, FieldFault};
-use netlist::parts::{Net, Shifter, Supplies, Terms, stands, voltage_follows, voltage_in_limits};
+use netlist::parts::{Net, Shifter, Supplies, Terms, stands};
 use netlist::refusal::Refusal;
 
-// Names the block of a fault, so that `?` can carry it.
-pub(crate) fn in_block<T: Drop>(
-    block: usize,
-    r: Result<T, BlockFault>,
-) -> Result<T, (usize, BlockFault)>
-    ensures { result ≡ inside (λ f. (block, f)) r }
-{
-    match r {
-        Ok(x) => Ok(x),
-        Err(f) => Err((block, f)),
-    }
-}
+const CYCLE: Field = Field {
+    width: 4,
+    low: 1,
+    high: 2_000_000,
+};
 
-// The map of a block.
-pub(crate) fn map_at(bytes: &[u8], at: usize) -> Result<u8, BlockFault>
-    ensures value { result ≡ map_byte bytes.now at }
-    ensures room { OnOk result (at < length bytes.now) }
-{
-    if at >= bytes.len() {
-        return Err(BlockFault::Map {
-            refusal: Refusal::EndsEarly,
-            at,
-        });
-    }
-    Ok(bytes[at])
-}
+// A shifter's delay, and its power.
+const SHIFTER: Field = Field {
+    width: 2,
+    low: 1,
+    high: 10_000,
+};
 
-fn head_of(bytes: &[u8], map: u8, at: usize) -> Result<(Head, usize), FieldFault>
-    requires { at ≤ length bytes.now }
-    ensures value { result ≡ head_fields bytes.now map at }
-    ensures few { IfOk result (λ x. (x.0.modules ≤ 64) × (x.0.nets ≤ 256)) }
-    ensures place { IfOk result (λ x. x.1 ≤ length bytes.now) }
-{
-    let (cycle, at) = required_number(bytes, 4, 1, 2_000_000, at)?;
-    let (delay, at) = optional_number(bytes, stands(map, 1), 2, 10_000, at)?;
-    let (power, at) = optional_number(bytes, stands(map, 2), 2, 10_000, at)?;
-    let (modules, at) = optional_number(bytes, stands(map, 3), 1, 64, at)?;
-    let (nets, at) = optional_number(bytes, stands(map, 4), 2, 256, at)?;
-    let terms = Terms {
-        cycle,
-        shifter: Shifter { delay, power },
-    };
-    Ok((
-        Head {
+const MODULES: Field = Field {
+    width: 1,
+    low: 1,
+    high: 64,
+};
+
+const NETS: Field = Field {
+    width: 2,
+    low: 1,
+    high: 256,
+};
+
+const WIRE: Field = Field {
+    width: 2,
+    low: 1,
+    high: 10_000,
+};
+
+impl Cursor<'_> {
+    // The map of a block.
+    pub(crate) fn map(&mut self) -> Result<u8, BlockFault>
+        ensures value { result ≡ map_byte self.old.bytes.now self.old.at }
+        ensures place { OnOk result (self.new.at ≡ self.old.at + 1) }
+        ensures same { self.new.bytes ≡ self.old.bytes }
+    {
+        let at = self.at;
+        if at >= self.bytes.len() {
+            return Err(BlockFault::Map {
+                refusal: Refusal::EndsEarly,
+                at,
+            });
+        }
+        self.at = at + 1;
+        Ok(self.bytes[at])
+    }
+
+    fn head_fields(&mut self, map: u8) -> Result<Head, FieldFault>
+        ensures value { placed result self.new.at ≡ head_fields self.old.bytes.now map self.old.at }
+        ensures few { IfOk result (λ h. (h.modules ≤ 64) × (h.nets ≤ 256)) }
+        ensures same { self.new.bytes ≡ self.old.bytes }
+    {
+        let cycle = self.required(CYCLE)?;
+        let delay = self.optional(stands(map, 1), SHIFTER)?;
+        let power = self.optional(stands(map, 2), SHIFTER)?;
+        let modules = self.optional(stands(map, 3), MODULES)?;
+        let nets = self.optional(stands(map, 4), NETS)?;
+        let terms = Terms {
+            cycle,
+            shifter: Shifter { delay, power },
+        };
+        Ok(Head {
             terms,
             modules,
             nets,
-        },
-        at,
-    ))
-}
-
-pub(crate) fn read_head(bytes: &[u8], at: usize) -> Result<(Head, usize), BlockFault>
-    ensures value { result ≡ head_block bytes.now at }
-    ensures few { IfOk result (λ x. (x.0.modules ≤ 64) × (x.0.nets ≤ 256)) }
-    ensures place { IfOk result (λ x. x.1 ≤ length bytes.now) }
-{
-    let map = map_at(bytes, at)?;
-    if !stands(map, 0) || map >= 32 {
-        return Err(BlockFault::Map {
-            refusal: Refusal::WrongMap,
-            at,
-        });
+        })
     }
-    let head = head_of(bytes, map, at + 1)?;
-    Ok(head)
-}
 
-fn net_of(bytes: &[u8], modules: u32, map: u8, at: usize) -> Result<(Net, usize), FieldFault>
-    requires { at ≤ length bytes.now }
-    ensures value { result ≡ net_fields modules bytes.now map at }
-    ensures place { IfOk result (λ x. x.1 ≤ length bytes.now) }
-{
-    let driver = number(bytes, 1, at)?;
-    let receiver = number(bytes, 1, at + 1)?;
-    if driver >= receiver || receiver >= modules {
-        return Err(FieldFault {
-            refusal: Refusal::WrongEnds,
-            at: at + 1,
-        });
+    pub(crate) fn head(&mut self) -> Result<Head, BlockFault>
+        ensures value { placed result self.new.at ≡ head_block self.old.bytes.now self.old.at }
+        ensures few { IfOk result (λ h. (h.modules ≤ 64) × (h.nets ≤ 256)) }
+        ensures same { self.new.bytes ≡ self.old.bytes }
+    {
+        let at = self.at;
+        let map = self.map()?;
+        if !stands(map, 0) || map >= 32 {
+            return Err(BlockFault::Map {
+                refusal: Refusal::WrongMap,
+                at,
+            });
+        }
+        Ok(self.head_fields(map)?)
     }
-    let (wire, at) = optional_number(bytes, stands(map, 2), 2, 10_000, at + 2)?;
-    Ok((
-        Net {
+
+    fn net_fields(&mut self, modules: u32, map: u8) -> Result<Net, FieldFault>
+        ensures value { placed result self.new.at ≡ net_fields modules self.old.bytes.now map self.old.at }
+        ensures same { self.new.bytes ≡ self.old.bytes }
+    {
+        let driver = self.number(1)?;
+        let at = self.at;
+        let receiver = self.number(1)?;
+        if driver >= receiver || receiver >= modules {
+            return Err(FieldFault {
+                refusal: Refusal::WrongEnds,
+                at,
+            });
+        }
+        let wire = self.optional(stands(map, 2), WIRE)?;
+        Ok(Net {
             driver,
             receiver,
             wire,
-        },
-        at,
-    ))
-}
-
-pub(crate) fn read_net(bytes: &[u8], modules: u32, at: usize) -> Result<(Net, usize), BlockFault>
-    ensures value { result ≡ net_block modules bytes.now at }
-    ensures place { IfOk result (λ x. x.1 ≤ length bytes.now) }
-{
-    let map = map_at(bytes, at)?;
-    if !stands(map, 0) || !stands(map, 1) || map >= 8 {
-        return Err(BlockFault::Map {
-            refusal: Refusal::WrongMap,
-            at,
-        });
+        })
     }
-    let net = net_of(bytes, modules, map, at + 1)?;
-    Ok(net)
-}
 
-fn voltage(bytes: &[u8], last: Option<u32>, at: usize) -> Result<u32, FieldFault>
-    requires { at ≤ length bytes.now }
-    ensures value { result ≡ voltage_entry bytes.now last at }
-    ensures room { OnOk result (at + 2 ≤ length bytes.now) }
-{
-    let v = number(bytes, 2, at)?;
-    if !voltage_in_limits(v) {
-        return Err(FieldFault {
-            refusal: Refusal::Limit,
-            at,
-        });
+    pub(crate) fn net(&mut self, modules: u32) -> Result<Net, BlockFault>
+        ensures value { placed result self.new.at ≡ net_block modules self.old.bytes.now self.old.at }
+        ensures same { self.new.bytes ≡ self.old.bytes }
+    {
+        let at = self.at;
+        let map = self.map()?;
+        if !stands(map, 0) || !stands(map, 1) || map >= 8 {
+            return Err(BlockFault::Map {
+                refusal: Refusal::WrongMap,
+                at,
+            });
+        }
+        Ok(self.net_fields(modules, map)?)
     }
-    if !voltage_follows(last, v) {
-        return Err(FieldFault {
-            refusal: Refusal::Order,
-            at,
-        });
-    }
-    Ok(v)
-}
 
-// As many fields as bits stand in the map: each is of the lowest supply that is left.
-fn supplies_of(bytes: &[u8], map: u8, start: usize) -> Result<(Supplies, usize), FieldFault>
-    requires { start ≤ length bytes.now }
-    ensures value { result ≡ supplies_fields bytes.now map start }
-    ensures place { IfOk result (λ x. x.1 ≤ length bytes.now) }
-{
-    let mut voltages = [0; 8];
-    let mut last = None;
-    let mut at = start;
-    let mut left = map;
-    for _field in 0..map.count_ones() {
-        let supply = left.trailing_zeros();
-        let v = voltage(bytes, last, at)?;
-        voltages[supply as usize] = v;
-        last = Some(v);
-        at += 2;
-        left &= left - 1;
+    fn voltage(&mut self, last: Option<u32>) -> Result<u32, FieldFault>
+        ensures value { result ≡ voltage_entry self.old.bytes.now last self.old.at }
+        ensures place { OnOk result (self.new.at ≡ self.old.at + 2) }
+        ensures same { self.new.bytes ≡ self.old.bytes }
+    {
+        let at = self.at;
+        let voltage = self.number(2)?;
+        checked(voltage, last, at)
     }
-    Ok((Supplies { map, voltages }, at))
-}
 
-pub(crate) fn read_supplies(bytes: &[u8], at: usize) -> Result<(Supplies, usize), BlockFault>
-    ensures value { result ≡ supplies_block bytes.now at }
-    ensures place { IfOk result (λ x. x.1 ≤ length bytes.now) }
-{
-    let map = map_at(bytes, at)?;
-    let supplies = supplies_of(bytes, map, at + 1)?;
-    Ok(supplies)
+    // As many fields as bits stand in the map: each is of the lowest supply that is left.
+    fn supplies_fields(&mut self, map: u8) -> Result<Supplies, FieldFault>
+        ensures value { placed result self.new.at ≡ supplies_fields self.old.bytes.now map self.old.at }
+        ensures same { self.new.bytes ≡ self.old.bytes }
+    {
+        let mut voltages = [0; 8];
+        let mut last = None;
+        let mut left = map;
+        for _field in 0..map.count_ones() {
+            let supply = left.trailing_zeros();
+            let v = self.voltage(last)?;
+            voltages[supply as usize] = v;
+            last = Some(v);
+            left &= left - 1;
+        }
+        Ok(Supplies {
+            map,
+            values: voltages,
+        })
+    }
+
+    pub(crate) fn supplies(&mut self) -> Result<Supplies, BlockFault>
+        ensures value { placed result self.new.at ≡ supplies_block self.old.bytes.now self.old.at }
+        ensures same { self.new.bytes ≡ self.old.bytes }
+    {
+        let map = self.map()?;
+        Ok(self.supplies_fields(map)?)
+    }
 }

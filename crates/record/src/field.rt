@@ -1,81 +1,89 @@
-// Reads the fields of a record. `at` is a place in the record, and each reader answers the place after its field.
-ghost use Rattle.std.specs.Prelude.{◌≡◌, ◌+◌, ◌^◌, ◌<◌, ◌≤◌, length, IfOk, OnOk};
-ghost use Rattle.record.specs.Fields.{field, in_limits, required, optional};
+// Reads the fields of a record. A reader leaves the cursor after its field; where the field is refused, the place of the
+// cursor says nothing.
+ghost use Rattle.std.specs.Prelude.{◌≡◌, ◌+◌, ◌<◌, ◌≤◌, IfOk, OnOk};
+ghost use Rattle.record.specs.Fields.{field as number_at, limited, required, optional};
+ghost use Rattle.record.specs.Steps.{placed};
 
+use crate::cursor::Cursor;
 use faults::FieldFault;
 use netlist::refusal::Refusal;
 
-// A number of at most four bytes, most significant first.
-pub(crate) fn number(bytes: &[u8], width: usize, at: usize) -> Result<u32, FieldFault>
-    requires { (at ≤ length bytes.now) × (width ≤ 4) }
-    ensures value { result ≡ field width bytes.now at }
-    ensures room { OnOk result (at + width ≤ length bytes.now) }
-{
-    if at + width > bytes.len() {
-        return Err(FieldFault {
-            refusal: Refusal::EndsEarly,
-            at,
-        });
-    }
-    let mut n: u32 = 0;
-    for i in 0..width {
-        n = 256 * n + bytes[at + i] as u32;
-    }
-    Ok(n)
+// How many bytes a field has, and the limits of its number.
+#[derive(Clone, Copy)]
+pub(crate) struct Field {
+    pub(crate) width: usize,
+    pub(crate) low: u32,
+    pub(crate) high: u32,
+    ghost narrow: { width ≤ 4 },
 }
 
-fn limited(n: u32, low: u32, high: u32, width: usize, at: usize) -> Result<(u32, usize), FieldFault>
-    requires { at + width < 2 ^ 64 }
-    ensures value { result ≡ in_limits low high width at n }
-    ensures limit { IfOk result (λ x. x.0 ≤ high) }
-    ensures place { IfOk result (λ x. x.1 ≡ at + width) }
-{
-    if n < low || n > high {
-        return Err(FieldFault {
-            refusal: Refusal::Limit,
-            at,
-        });
+impl Field {
+    // The number at a place, if it lies in the limits.
+    fn limited(self, n: u32, at: usize) -> Result<u32, FieldFault>
+        ensures value { result ≡ limited self.low self.high at n }
+        ensures limit { IfOk result (λ x. x ≤ self.high) }
+    {
+        if n < self.low || n > self.high {
+            return Err(FieldFault {
+                refusal: Refusal::Limit,
+                at,
+            });
+        }
+        Ok(n)
     }
-    Ok((n, at + width))
 }
 
-pub(crate) fn required_number(
-    bytes: &[u8],
-    width: usize,
-    low: u32,
-    high: u32,
-    at: usize,
-) -> Result<(u32, usize), FieldFault>
-    requires { (at ≤ length bytes.now) × (width ≤ 4) }
-    ensures value { result ≡ required width low high bytes.now at }
-    ensures place { IfOk result (λ x. x.1 ≤ length bytes.now) }
-{
-    let n = number(bytes, width, at)?;
-    limited(n, low, high, width, at)
-}
+impl Cursor<'_> {
+    // A number of at most four bytes, most significant first.
+    pub(crate) fn number(&mut self, width: usize) -> Result<u32, FieldFault>
+        requires { width ≤ 4 }
+        ensures value { result ≡ number_at width self.old.bytes.now self.old.at }
+        ensures place { OnOk result (self.new.at ≡ self.old.at + width) }
+        ensures same { self.new.bytes ≡ self.old.bytes }
+    {
+        let at = self.at;
+        let end = at + width;
+        if end > self.bytes.len() {
+            return Err(FieldFault {
+                refusal: Refusal::EndsEarly,
+                at,
+            });
+        }
+        let mut n = 0;
+        for byte in &self.bytes[at..end] {
+            n = 256 * n + u32::from(*byte);
+        }
+        self.at = end;
+        Ok(n)
+    }
 
-// A field whose absence means 0.
-pub(crate) fn optional_number(
-    bytes: &[u8],
-    present: bool,
-    width: usize,
-    high: u32,
-    at: usize,
-) -> Result<(u32, usize), FieldFault>
-    requires { (at ≤ length bytes.now) × (width ≤ 4) }
-    ensures value { result ≡ optional present width high bytes.now at }
-    ensures limit { IfOk result (λ x. x.0 ≤ high) }
-    ensures place { IfOk result (λ x. x.1 ≤ length bytes.now) }
-{
-    if !present {
-        return Ok((0, at));
+    pub(crate) fn required(&mut self, field: Field) -> Result<u32, FieldFault>
+        ensures value { placed result self.new.at ≡ required field.width field.low field.high self.old.bytes.now self.old.at }
+        ensures same { self.new.bytes ≡ self.old.bytes }
+    {
+        let at = self.at;
+        let n = self.number(field.width)?;
+        field.limited(n, at)
     }
-    let n = number(bytes, width, at)?;
-    if n == 0 {
-        return Err(FieldFault {
-            refusal: Refusal::AbsentValue,
-            at,
-        });
+
+    // A field whose absence means 0.
+    pub(crate) fn optional(&mut self, present: bool, field: Field) -> Result<u32, FieldFault>
+        requires { field.low ≡ 1 }
+        ensures value { placed result self.new.at ≡ optional present field.width field.high self.old.bytes.now self.old.at }
+        ensures limit { IfOk result (λ x. x ≤ field.high) }
+        ensures same { self.new.bytes ≡ self.old.bytes }
+    {
+        if !present {
+            return Ok(0);
+        }
+        let at = self.at;
+        let n = self.number(field.width)?;
+        if n == 0 {
+            return Err(FieldFault {
+                refusal: Refusal::AbsentValue,
+                at,
+            });
+        }
+        field.limited(n, at)
     }
-    limited(n, 1, high, width, at)
 }

@@ -2,7 +2,7 @@
 use netlist::parts::Terms;
 
 // The terms of a design, and how many modules and nets follow.
-#[derive(Clone, Copy)]
+#[derive(Clone, Copy, PartialEq, Eq, Debug)]
 pub struct Head {
     pub terms: Terms,
     pub modules: u32,

@@ -2,6 +2,8 @@
 #![tactic(auto)]
 
 mod block;
+mod cursor;
+mod entry;
 mod field;
 mod fill;
 pub mod head;
@@ -9,3 +11,4 @@ mod menus;
 mod nets;
 pub mod read;
 pub mod reader;
+mod sheet;

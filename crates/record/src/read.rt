@@ -1,40 +1,46 @@
 // Reads a whole record into a draft.
-ghost use Rattle.std.specs.Prelude.{◌≡◌, ℕ, ◌≤◌, List, IfOk, Ok, OnOk};
+ghost use Rattle.std.specs.Prelude.{◌≡◌, ℕ, List, Ok, OnOk};
 ghost use Rattle.netlist.specs.View.{drawn};
 ghost use Rattle.record.specs.Fields.{Bytes};
-ghost use Rattle.record.specs.Record.{reads_as, record_of, sheet, taken, replaced};
+ghost use Rattle.record.specs.Record.{reads_as, record_of, taken, replaced};
+ghost use Rattle.record.specs.Sheets.{designed};
 
-use crate::block::{in_block, read_head, read_supplies};
+use crate::cursor::Cursor;
 use crate::fill::fill;
-use crate::head::Head;
-use crate::menus::read_menus;
-use crate::nets::read_nets;
+use crate::sheet::Sheet;
 use faults::RecordFault;
 use netlist::design::draft::Draft;
-use netlist::parts::{Menu, Net, Supplies};
+use netlist::parts::{Menu, Net};
 
-// Reads all blocks, the modules and the nets into places that the caller lends.
-fn read_blocks(
+// Reads all blocks, the modules and nets into places that the caller lends.
+fn read_sheet<'a>(
     bytes: &[u8],
-    menus: &mut [Menu; 64],
-    nets: &mut [Net; 256],
-) -> Result<(Head, Supplies), RecordFault>
-    ensures value { sheet result menus.new nets.new ≡ reads_as bytes.now }
-    ensures few { IfOk result (λ x. (x.0.modules ≤ 64) × (x.0.nets ≤ 256)) }
+    menus: &'a mut [Menu; 64],
+    nets: &'a mut [Net; 256],
+) -> Result<Sheet<'a>, RecordFault>
+    ensures { designed result ≡ reads_as bytes.now }
 {
-    let (head, at) = in_block(0, read_head(bytes, 0))?;
-    let (supplies, at) = in_block(1, read_supplies(bytes, at))?;
-    let modules = head.modules as usize;
-    let count = head.nets as usize;
-    let at = read_menus(bytes, supplies.map, 2, at, &mut menus[0..modules])?;
-    let at = read_nets(bytes, head.modules, 2 + modules, at, &mut nets[0..count])?;
-    if at < bytes.len() {
+    let mut cursor = Cursor { bytes, at: 0 };
+    let head = cursor.head().map_err(|fault| (0, fault))?;
+    let supplies = cursor.supplies().map_err(|fault| (1, fault))?;
+    let menus = &mut menus[..head.modules as usize];
+    let nets = &mut nets[..head.nets as usize];
+    let first_net = 2 + menus.len();
+    let end = first_net + nets.len();
+    cursor.menus(supplies.map, 2, menus)?;
+    cursor.nets(head.modules, first_net, nets)?;
+    if cursor.at < bytes.len() {
         return Err(RecordFault::BytesFollow {
-            block: 2 + modules + count,
-            at,
+            block: end,
+            at: cursor.at,
         });
     }
-    Ok((head, supplies))
+    Ok(Sheet {
+        terms: head.terms,
+        supplies,
+        menus,
+        nets,
+    })
 }
 
 // Reads a record into a draft, which it replaces whole; a refused record leaves it as it was.
@@ -46,15 +52,7 @@ pub fn read(bytes: &[u8], draft: &mut Draft) -> Result<(), RecordFault>
 {
     let mut menus = [Menu::NONE; 64];
     let mut nets = [Net::NONE; 256];
-    let (head, supplies) = read_blocks(bytes, &mut menus, &mut nets)?;
-    let modules = head.modules as usize;
-    let count = head.nets as usize;
-    fill(
-        draft,
-        head.terms,
-        supplies,
-        &menus[0..modules],
-        &nets[0..count],
-    );
+    let sheet = read_sheet(bytes, &mut menus, &mut nets)?;
+    fill(draft, sheet);
     Ok(())
 }

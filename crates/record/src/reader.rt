@@ -19,7 +19,7 @@ pub enum Kind {
 }
 
 // What a reader is about to read. Asked on after the end or a fault, it repeats that.
-#[derive(Clone, Copy)]
+#[derive(Clone, Copy, PartialEq, Eq, Debug)]
 pub enum State {
     Head,
     Supplies,
@@ -30,7 +30,7 @@ pub enum State {
 }
 
 // The place that a caller lends: each call fills the part of its kind, and a fault leaves all as it was.
-#[derive(Clone, Copy)]
+#[derive(Clone, Copy, PartialEq, Eq, Debug)]
 pub struct Block {
     pub head: Head,
     pub supplies: Supplies,
@@ -48,7 +48,7 @@ impl Block {
 }
 
 // How far a reader has come: `at` is the place of the next block, `head` and `supplies` what it has read of them.
-#[derive(Clone, Copy)]
+#[derive(Clone, Copy, PartialEq, Eq, Debug)]
 pub struct Stand {
     pub state: State,
     pub at: usize,

@@ -1,149 +1,157 @@
 // The worked example of 64 bytes, whole, cut, lengthened and damaged.
+use example::record_bytes;
 use faults::RecordFault;
 use netlist::design::draft::Draft;
+use netlist::refusal::Refusal;
 use record::read::read;
 use record::reader::{Block, Kind, Reader};
-use std::process::Abort;
 use std::test::Fail;
 use writer::write::write;
 
-// Two supplies, three modules, two nets.
-const EXAMPLE: [u8; 64] = [
-    0x1f, 0, 0, 0, 16, 0, 1, 0, 2, 3, 0, 2, 0x03, 0x04, 0xb0, 0x03, 0xe8, 0x03, 0, 4, 0, 0, 0, 30,
-    0, 6, 0, 0, 0, 18, 0x03, 0, 3, 0, 0, 0, 20, 0, 5, 0, 0, 0, 11, 0x03, 0, 5, 0, 0, 0, 40, 0, 8,
-    0, 0, 0, 22, 0x07, 0, 1, 0, 1, 0x03, 1, 2,
-];
-
-// The block and the first byte of each map and field of the example, in their order.
-const PLACES: [(usize, usize); 25] = [
-    (0, 0),
-    (0, 1),
-    (0, 5),
-    (0, 7),
-    (0, 9),
-    (0, 10),
-    (1, 12),
-    (1, 13),
-    (1, 15),
-    (2, 17),
-    (2, 18),
-    (2, 24),
-    (3, 30),
-    (3, 31),
-    (3, 37),
-    (4, 43),
-    (4, 44),
-    (4, 50),
-    (5, 56),
-    (5, 57),
-    (5, 58),
-    (5, 59),
-    (6, 61),
-    (6, 62),
-    (6, 63),
-];
-
-// The example with one byte changed: place and value, then the number, block and byte of the refusal.
-const DAMAGED: [(usize, u8, u32, usize, usize); 30] = [
-    (0, 0x3f, 3, 0, 0),
-    (0, 0x1e, 3, 0, 0),
-    (4, 0, 5, 0, 1),
-    (1, 1, 5, 0, 1),
-    (6, 0, 4, 0, 5),
-    (5, 40, 5, 0, 5),
-    (8, 0, 4, 0, 7),
-    (7, 40, 5, 0, 7),
-    (9, 0, 4, 0, 9),
-    (9, 65, 5, 0, 9),
-    (11, 0, 4, 0, 10),
-    (10, 2, 5, 0, 10),
-    (13, 0, 5, 1, 13),
-    (13, 20, 5, 1, 13),
-    (15, 5, 6, 1, 15),
-    (17, 0, 7, 2, 17),
-    (17, 5, 7, 2, 17),
-    (19, 0, 5, 2, 18),
-    (20, 1, 5, 2, 18),
-    (23, 0, 5, 2, 18),
-    (25, 4, 6, 2, 24),
-    (29, 30, 6, 2, 24),
-    (43, 0x83, 7, 4, 43),
-    (56, 0x0f, 3, 5, 56),
-    (56, 0x05, 3, 5, 56),
-    (57, 1, 8, 5, 58),
-    (58, 3, 8, 5, 58),
-    (60, 0, 4, 5, 59),
-    (59, 40, 5, 5, 59),
-    (61, 0x07, 1, 6, 64),
-];
-
-fn refused(
-    rt: &impl Abort,
-    bytes: &[u8],
-    draft: &mut Draft,
-    number: u32,
+// A block, and the first byte of a map or field in it, or of what follows the end.
+#[derive(Clone, Copy, PartialEq, Eq, Debug)]
+struct Place {
     block: usize,
     at: usize,
-) -> Result<(), Fail> {
-    match read(bytes, draft) {
-        Ok(()) => Err(Fail::new("a damaged record was taken")),
-        Err(fault) => told(rt, fault, number, block, at),
+}
+
+// What a refused record is told.
+#[derive(Clone, Copy, PartialEq, Eq, Debug)]
+struct Told {
+    number: u32,
+    place: Place,
+}
+
+impl From<RecordFault> for Told {
+    fn from(fault: RecordFault) -> Told {
+        Told {
+            number: fault.refusal().number(),
+            place: Place {
+                block: fault.block(),
+                at: fault.at(),
+            },
+        }
     }
 }
 
-fn told(
-    rt: &impl Abort,
-    fault: RecordFault,
+// One byte of the example changed, and the number and place of the refusal.
+#[derive(Clone, Copy)]
+struct Damage {
+    byte: usize,
+    value: u8,
     number: u32,
-    block: usize,
-    at: usize,
-) -> Result<(), Fail> {
-    assert_eq!(rt; fault.refusal().number(), number);
-    assert_eq!(rt; fault.block(), block);
-    assert_eq!(rt; fault.at(), at);
-    Ok(())
+    place: Place,
+}
+
+// Each map and field of the example, in their order.
+const PLACES: [Place; 25] = [
+    Place { block: 0, at: 0 },
+    Place { block: 0, at: 1 },
+    Place { block: 0, at: 5 },
+    Place { block: 0, at: 7 },
+    Place { block: 0, at: 9 },
+    Place { block: 0, at: 10 },
+    Place { block: 1, at: 12 },
+    Place { block: 1, at: 13 },
+    Place { block: 1, at: 15 },
+    Place { block: 2, at: 17 },
+    Place { block: 2, at: 18 },
+    Place { block: 2, at: 24 },
+    Place { block: 3, at: 30 },
+    Place { block: 3, at: 31 },
+    Place { block: 3, at: 37 },
+    Place { block: 4, at: 43 },
+    Place { block: 4, at: 44 },
+    Place { block: 4, at: 50 },
+    Place { block: 5, at: 56 },
+    Place { block: 5, at: 57 },
+    Place { block: 5, at: 58 },
+    Place { block: 5, at: 59 },
+    Place { block: 6, at: 61 },
+    Place { block: 6, at: 62 },
+    Place { block: 6, at: 63 },
+];
+
+#[rattlefmt::skip]
+const DAMAGED: [Damage; 30] = [
+    Damage { byte: 0, value: 0x3f, number: 3, place: Place { block: 0, at: 0 } },
+    Damage { byte: 0, value: 0x1e, number: 3, place: Place { block: 0, at: 0 } },
+    Damage { byte: 4, value: 0, number: 5, place: Place { block: 0, at: 1 } },
+    Damage { byte: 1, value: 1, number: 5, place: Place { block: 0, at: 1 } },
+    Damage { byte: 6, value: 0, number: 4, place: Place { block: 0, at: 5 } },
+    Damage { byte: 5, value: 40, number: 5, place: Place { block: 0, at: 5 } },
+    Damage { byte: 8, value: 0, number: 4, place: Place { block: 0, at: 7 } },
+    Damage { byte: 7, value: 40, number: 5, place: Place { block: 0, at: 7 } },
+    Damage { byte: 9, value: 0, number: 4, place: Place { block: 0, at: 9 } },
+    Damage { byte: 9, value: 65, number: 5, place: Place { block: 0, at: 9 } },
+    Damage { byte: 11, value: 0, number: 4, place: Place { block: 0, at: 10 } },
+    Damage { byte: 10, value: 2, number: 5, place: Place { block: 0, at: 10 } },
+    Damage { byte: 13, value: 0, number: 5, place: Place { block: 1, at: 13 } },
+    Damage { byte: 13, value: 20, number: 5, place: Place { block: 1, at: 13 } },
+    Damage { byte: 15, value: 5, number: 6, place: Place { block: 1, at: 15 } },
+    Damage { byte: 17, value: 0, number: 7, place: Place { block: 2, at: 17 } },
+    Damage { byte: 17, value: 5, number: 7, place: Place { block: 2, at: 17 } },
+    Damage { byte: 19, value: 0, number: 5, place: Place { block: 2, at: 18 } },
+    Damage { byte: 20, value: 1, number: 5, place: Place { block: 2, at: 18 } },
+    Damage { byte: 23, value: 0, number: 5, place: Place { block: 2, at: 18 } },
+    Damage { byte: 25, value: 4, number: 6, place: Place { block: 2, at: 24 } },
+    Damage { byte: 29, value: 30, number: 6, place: Place { block: 2, at: 24 } },
+    Damage { byte: 43, value: 0x83, number: 7, place: Place { block: 4, at: 43 } },
+    Damage { byte: 56, value: 0x0f, number: 3, place: Place { block: 5, at: 56 } },
+    Damage { byte: 56, value: 0x05, number: 3, place: Place { block: 5, at: 56 } },
+    Damage { byte: 57, value: 1, number: 8, place: Place { block: 5, at: 58 } },
+    Damage { byte: 58, value: 3, number: 8, place: Place { block: 5, at: 58 } },
+    Damage { byte: 60, value: 0, number: 4, place: Place { block: 5, at: 59 } },
+    Damage { byte: 59, value: 40, number: 5, place: Place { block: 5, at: 59 } },
+    Damage { byte: 61, value: 0x07, number: 1, place: Place { block: 6, at: 64 } },
+];
+
+fn reading(bytes: &[u8], draft: &mut Draft) -> Result<(), Told> {
+    read(bytes, draft).map_err(Told::from)
 }
 
 #[test]
 fn example_is_written_back(rt: HostRuntime) -> Result<(), Fail> {
+    let record = record_bytes();
     let mut draft = Draft::new(rt.alloc())?;
-    assert!(rt; read(&EXAMPLE, &mut draft).is_ok());
+    read(&record, &mut draft)?;
     assert_eq!(rt; draft.design().menus().len(), 3);
     assert_eq!(rt; draft.design().terms().cycle, 16);
     let mut out = [7u8; 70];
-    match write(draft.design(), &mut out) {
-        Ok(length) => assert_eq!(rt; length, 64),
-        Err(_) => return Err(Fail::new("the buffer is long enough")),
-    }
-    assert!(rt; &out[0..64] == &EXAMPLE[0..64]);
-    assert!(rt; &out[64..70] == &[7u8; 6][0..6], "other bytes keep");
+    assert_eq!(rt; write(draft.design(), &mut out), Ok(64));
+    assert_eq!(rt; &out[..64], record.as_slice());
+    assert_eq!(rt; &out[64..], [7u8; 6].as_slice(), "other bytes keep");
     Ok(())
 }
 
 #[test]
 fn short_buffers_are_kept(rt: HostRuntime) -> Result<(), Fail> {
     let mut draft = Draft::new(rt.alloc())?;
-    assert!(rt; read(&EXAMPLE, &mut draft).is_ok());
+    read(&record_bytes(), &mut draft)?;
     let mut out = [7u8; 63];
-    match write(draft.design(), &mut out) {
-        Ok(_) => return Err(Fail::new("63 bytes are too few")),
-        Err(refusal) => assert_eq!(rt; refusal.number(), 24),
-    }
-    assert!(rt; out == [7u8; 63]);
+    let answer = write(draft.design(), &mut out).map_err(Refusal::number);
+    assert_eq!(rt; answer, Err(24), "63 bytes are too few");
+    assert_eq!(rt; out, [7u8; 63]);
     Ok(())
 }
 
 #[test]
 fn every_cut_is_refused_in_its_field(rt: HostRuntime) -> Result<(), Fail> {
+    let record = record_bytes();
     let mut draft = Draft::new(rt.alloc())?;
-    let mut field = 0;
     for length in 0..64usize {
-        if field < 24 && PLACES[field + 1].1 <= length {
-            field += 1;
-        }
-        assert!(rt; field < 25);
-        let (block, at) = PLACES[field];
-        refused(&rt, &EXAMPLE[0..length], &mut draft, 1, block, at)?;
+        let Some(place) = PLACES.iter().rfind(|place| place.at <= length) else {
+            return Err(Fail::new("no field begins before the cut"));
+        };
+        let told = Told {
+            number: 1,
+            place: *place,
+        };
+        assert_eq!(rt;
+            reading(&record[..length], &mut draft),
+            Err(told),
+            "cut at {length}"
+        );
     }
     assert_eq!(rt;
         draft.design().menus().len(),
@@ -157,20 +165,36 @@ fn every_cut_is_refused_in_its_field(rt: HostRuntime) -> Result<(), Fail> {
 fn bytes_that_follow_are_refused(rt: HostRuntime) -> Result<(), Fail> {
     let mut draft = Draft::new(rt.alloc())?;
     let mut longer = [0u8; 65];
-    longer[0..64].copy_from_slice(&EXAMPLE);
-    refused(&rt, &longer, &mut draft, 2, 7, 64)
+    longer[..64].copy_from_slice(&record_bytes());
+    let told = Told {
+        number: 2,
+        place: Place { block: 7, at: 64 },
+    };
+    assert_eq!(rt; reading(&longer, &mut draft), Err(told));
+    Ok(())
 }
 
 #[test]
 fn each_damage_has_its_number_and_place(rt: HostRuntime) -> Result<(), Fail> {
+    let record = record_bytes();
     let mut draft = Draft::new(rt.alloc())?;
-    assert!(rt; read(&EXAMPLE, &mut draft).is_ok());
-    for (place, value, number, block, at) in DAMAGED {
-        let mut bytes = EXAMPLE;
-        assert!(rt; place < 64);
-        bytes[place] = value;
-        // a damaged byte
-        refused(&rt, &bytes, &mut draft, number, block, at)?;
+    read(&record, &mut draft)?;
+    for damage in DAMAGED {
+        let Damage {
+            byte,
+            value,
+            number,
+            place,
+        } = damage;
+        let mut bytes = record;
+        assert!(rt; byte < 64);
+        bytes[byte] = value;
+        let told = Told { number, place };
+        assert_eq!(rt;
+            reading(&bytes, &mut draft),
+            Err(told),
+            "byte {byte} is {value}"
+        );
     }
     assert_eq!(rt;
         draft.design().nets().len(),
@@ -182,7 +206,8 @@ fn each_damage_has_its_number_and_place(rt: HostRuntime) -> Result<(), Fail> {
 
 #[test]
 fn reader_hands_out_block_by_block(rt: HostRuntime) -> Result<(), Fail> {
-    let mut reader = Reader::new(&EXAMPLE);
+    let record = record_bytes();
+    let mut reader = Reader::new(&record);
     let mut block = Block::BLANK;
     for kind in [
         Kind::Head,
@@ -195,34 +220,47 @@ fn reader_hands_out_block_by_block(rt: HostRuntime) -> Result<(), Fail> {
         Kind::End,
         Kind::End,
     ] {
-        match reader.next(&mut block) {
-            Ok(came) => assert_eq!(rt; came, kind),
-            Err(_) => return Err(Fail::new("the example is lawful")),
-        }
+        assert_eq!(rt; reader.next(&mut block), Ok(kind));
     }
     assert_eq!(rt; block.head.terms.cycle, 16);
-    assert_eq!(rt; block.menu.choices[1].power, 22);
+    assert_eq!(rt; block.menu.values[1].power, 22);
     assert_eq!(rt; block.net.receiver, 2);
     Ok(())
 }
 
 #[test]
 fn reader_repeats_a_fault(rt: HostRuntime) -> Result<(), Fail> {
-    let mut reader = Reader::new(&EXAMPLE[0..40]);
+    let record = record_bytes();
+    let mut reader = Reader::new(&record[..40]);
     let mut block = Block::BLANK;
     for _ in 0..3 {
-        assert!(rt; reader.next(&mut block).is_ok());
+        reader.next(&mut block)?;
     }
+    let told = Told {
+        number: 1,
+        place: Place { block: 3, at: 37 },
+    };
     for _ in 0..3 {
-        match reader.next(&mut block) {
-            Ok(_) => return Err(Fail::new("the record ends early")),
-            Err(fault) => told(&rt, fault, 1, 3, 37)?,
-        }
+        assert_eq!(rt; reader.next(&mut block).map_err(Told::from), Err(told));
     }
     assert_eq!(rt;
-        block.menu.choices[1].power,
+        block.menu.values[1].power,
         18,
         "a fault leaves the lent block"
+    );
+    Ok(())
+}
+
+#[test]
+fn a_fault_tells_its_number_place_and_reason(rt: HostRuntime) -> Result<(), Fail> {
+    let mut draft = Draft::new(rt.alloc())?;
+    let Err(fault) = read(&record_bytes()[..40], &mut draft) else {
+        return Err(Fail::new("the record ends early"));
+    };
+    let told = format!(in rt.alloc(); "{fault}")?;
+    assert_eq!(rt;
+        told.as_str(),
+        "1 in block 3 at byte 37: the record ends early"
     );
     Ok(())
 }

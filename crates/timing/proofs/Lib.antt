@@ -8,6 +8,7 @@ pub mod FanIns
 pub mod Arrived
 pub mod Walked
 pub mod Reach
+pub mod Served
 pub mod Selected
 pub mod Cycles
 pub mod Assessed

@@ -1,20 +1,29 @@
 -- The listing order as a test. Assumes nothing.
-use Rattle.std.proofs.Common.{◌≡◌, ℕ, zero, suc, ◌+◌, ◌<◌, ◌≤◌, true, false, ◌&&◌, ◌||◌, eqb, ltb, ◌⊎◌, List, [], ◌∷◌, length, get_or, drop, Decides, refl, ap, ◌∙◌, ap₂, inl, inr, ⊎_elim, arith}
-use Rattle.std.proofs.lemmas.List.{drop_more, drop_all}
-use Rattle.std.proofs.lemmas.Bool.{ltb-true, eqb-true, lt-ltb, eq-eqb, or_cases, or_left, or_right, and_parts, and_from}
+use Rattle.std.proofs.Common.{◌≡◌, ℕ, zero, suc, ◌<◌, Bool, true, false, cond, not, ◌&&◌, ◌||◌, eqb, ltb, List, [], ◌∷◌, length, Some, None, Option, Bor, MatchOption, IsTrue, ◌↔◌, refl, ⊎_elim, arith}
+use Rattle.std.specs.List.{find, zip}
+use Rattle.std.specs.Option.{option_map}
+use Rattle.std.proofs.lemmas.Bool.Decides.{nat_tests}
+use Rattle.std.proofs.lemmas.Bool.{ltb-true, eqb-true, lt-ltb, le-ltb, eq-eqb, or_cases, or_left, or_right, and_parts, and_from}
 use Rattle.timing.specs.Assignments.{Before, before, supply}
 
-pub before_more : (a b : List ℕ) (k : ℕ) → k < length a → k < length b → before (drop k a) (drop k b) ≡ (ltb (get_or a k 0) (get_or b k 0) || (eqb (get_or a k 0) (get_or b k 0) && before (drop (k + 1) a) (drop (k + 1) b)))
-before_more a b k h l = ap₂ before (drop_more a k 0 h) (drop_more b k 0 l)
+-- whether the first place that differs has the lower number first
+abbrev pub lower_first : Option (ℕ × ℕ) → Bool
+lower_first None = false
+lower_first (Some p) = ltb p.0 p.1
 
--- where either ends, nothing is listed before
-pub before_none : (a b : List ℕ) (k : ℕ) → (length a ≤ k) ⊎ (length b ≤ k) → before (drop k a) (drop k b) ≡ false
-before_none a b k (inl h) = ap (λ xs. before xs (drop k b)) (drop_all k a h)
-before_none a b k (inr h) = ap (before (drop k a)) (drop_all k b h) ∙ nothing (drop k a)
+pub first_answers : (r : Option (Bor ℕ × Bor ℕ)) (b : Bool) → MatchOption r (b ≡ false) (λ p. b ≡ ltb p.0.now p.1.now) → b ≡ lower_first (option_map (λ p. (p.0.now, p.1.now)) r)
+first_answers None b h = h
+first_answers (Some p) b h = h
+
+pub before_first : (a b : List ℕ) → lower_first (find (λ p. not (eqb p.0 p.1)) (zip a b)) ≡ before a b
+before_first [] b = refl
+before_first (x ∷ a) [] = refl
+before_first (x ∷ a) (y ∷ b) = go (eqb x y) (eqb-true x y) (before_first a b)
   where
-    nothing : (xs : List ℕ) → before xs [] ≡ false
-    nothing [] = refl
-    nothing (x ∷ xs) = refl
+    go : (e : Bool) → (e ≡ true → x ≡ y) → lower_first (find (λ p. not (eqb p.0 p.1)) (zip a b)) ≡ before a b →
+        lower_first (cond (not e) (Some (x, y)) (find (λ p. not (eqb p.0 p.1)) (zip a b))) ≡ (ltb x y || (e && before a b))
+    go true e ih = rw (le-ltb x y (let h = e refl in omega arith)) ih
+    go false e ih = grind (arith, nat_tests)
 
 words : (a b : List ℕ) → before a b ≡ true → Before a b
 words [] b t = let z : ◌≡◌ {A = ℕ} 0 1 = cc in absurd (omega arith)
@@ -38,5 +47,5 @@ test zero (x ∷ a) (y ∷ b) h s l = or_left (ltb x y) (eqb x y && before a b) 
 test (suc k) (x ∷ a) (y ∷ b) h s l =
     or_right (ltb x y) (eqb x y && before a b) (and_from (eqb x y) (before a b) (eq-eqb x y (s 0 (omega arith))) (test k a b (omega arith) (λ m j. s (suc m) (omega arith)) l))
 
-pub before_decides : (a b : List ℕ) → Decides (before a b) (Before a b)
+pub before_decides : (a b : List ℕ) → IsTrue (before a b) ↔ Before a b
 before_decides a b = (words a b, λ r. test r.where_they_differ a b r.inside r.same_below r.lower_there)

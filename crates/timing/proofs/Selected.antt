@@ -7,8 +7,8 @@ use Rattle.netlist.specs.declared.parts.Choice.{Choice}
 use Rattle.netlist.proofs.Kept.{kept, kept_supplies}
 use Rattle.netlist.proofs.Words.{keeps_rules, kept_at}
 use Rattle.std.proofs.lemmas.List.FromFn.{get_or-range_with_len, length-map-range_with_len, get_or-map-range_with_len, fill_by_all}
-use Rattle.std.proofs.lemmas.List.{length-map, get_or-map}
-use Rattle.std.proofs.lemmas.Bool.{cases_eq, eq-eqb, ne_eqb, cond-true, cond-false, both_ways}
+use Rattle.std.proofs.lemmas.List.{length-map, get_or-map, get_or_past}
+use Rattle.std.proofs.lemmas.Bool.{cases_lt, cases_eq, eq-eqb, ne_eqb, cond-true, cond-false, both_ways}
 use Rattle.std.specs.List.{range_with_len, AllByRecursion as All}
 use Rattle.timing.specs.Assignments.{Assigns, supply}
 use Rattle.timing.specs.Published.{Selection, Selects, Binary, weighed, total, offers, numbers, chosen, selected, selection_of, assignment_of, delay_at, power_at, voltage_at}
@@ -150,24 +150,31 @@ module _ (n : Netlist) (ok : lawful n ≡ true) where
   law : Rules n
   law = keeps_rules n ok
 
-  pub offered_below : (m s : ℕ) → Offered n m s → s < 8
+  offered_below : (m s : ℕ) → Offered n m s → s < 8
   offered_below m s b = let l = law.supply_numbers s (law.of_the_design m s b) in omega arith
 
-  eight_choices : (m : ℕ) → m < modules n → length (menu n m).choices ≡ 8
+  eight_choices : (m : ℕ) → m < modules n → length (menu n m).values ≡ 8
   eight_choices m h = (kept_at n ok m h).eight
 
-  eight_voltages : length n.supplies.voltages ≡ 8
+  eight_voltages : length n.supplies.values ≡ 8
   eight_voltages = (kept_supplies n.supplies (kept n ok).supplies).eight
 
-  -- what module m has under the variables of an assignment is what it has at its supply
   module _ (a : List ℕ) (assigns : Assigns n a) where
+    -- where there is no module, supply 0 is named
+    pub supply_below : (m : ℕ) → supply a m < 8
+    supply_below m = ⊎_elim
+        (λ h. offered_below m (supply a m) (assigns.of_its_menu m h))
+        (λ h. let past = get_or_past a m 0 (let l = assigns.one_each in omega arith) in omega arith)
+        (cases_lt m (modules n))
+
+    -- what module m has under the variables of an assignment is what it has at its supply
     pub selection_at : (m : ℕ) → m < modules n → get_or (selection_of n a) m [] ≡ selected n a m
     selection_at m h = get_or-map-range_with_len (selected n a) 0 (modules n) m m [] h (omega arith)
 
     weighed_at : (m : ℕ) → m < modules n → (xs : List ℕ) → length xs ≡ 8 → weighed (standing (menu n m).map 0 xs) (get_or (selection_of n a) m []) ≡ get_or xs (supply a m) 0
     weighed_at m h xs e =
         let b = assigns.of_its_menu m h in
-        let l = offered_below m (supply a m) b in
+        let l = supply_below m in
         let w = weighed_marked (menu n m).map (supply a m) 0 (supply a m) xs (omega arith) (omega arith) b in
         let P : ℕ → Type 0 = λ k. weighed (standing (menu n m).map 0 xs) (marks (menu n m).map (supply a m) 0 k) ≡ get_or xs (supply a m) 0 in
         ap (weighed (standing (menu n m).map 0 xs)) (selection_at m h) ∙ subst P e w
@@ -175,10 +182,10 @@ module _ (n : Netlist) (ok : lawful n ≡ true) where
     choice_weighed : (f : Choice → ℕ) → (m : ℕ) → m < modules n → weighed (map f (offers n m)) (get_or (selection_of n a) m []) ≡ f (choice n m (supply a m))
     choice_weighed f m h =
         let e = eight_choices m h in
-        let l = offered_below m (supply a m) (assigns.of_its_menu m h) in
-        ap (λ xs. weighed xs (get_or (selection_of n a) m [])) (map-standing f (menu n m).map 0 (menu n m).choices)
-        ∙ weighed_at m h (map f (menu n m).choices) (length-map (menu n m).choices f ∙ e)
-        ∙ get_or-map f (menu n m).choices (supply a m) no_choice 0 (omega arith)
+        let l = supply_below m in
+        ap (λ xs. weighed xs (get_or (selection_of n a) m [])) (map-standing f (menu n m).map 0 (menu n m).values)
+        ∙ weighed_at m h (map f (menu n m).values) (length-map (menu n m).values f ∙ e)
+        ∙ get_or-map f (menu n m).values (supply a m) no_choice 0 (omega arith)
 
     pub delay_same : (m : ℕ) → m < modules n → delay_at n (selection_of n a) m ≡ (choice n m (supply a m)).delay
     delay_same = choice_weighed (λ (c : Choice). c.delay)
@@ -187,21 +194,21 @@ module _ (n : Netlist) (ok : lawful n ≡ true) where
     power_same = choice_weighed (λ (c : Choice). c.power)
 
     pub voltage_same : (m : ℕ) → m < modules n → voltage_at n (selection_of n a) m ≡ voltage n (supply a m)
-    voltage_same m h = weighed_at m h n.supplies.voltages eight_voltages
+    voltage_same m h = weighed_at m h n.supplies.values eight_voltages
 
     pub number_same : (m : ℕ) → m < modules n → weighed (numbers n m) (get_or (selection_of n a) m []) ≡ supply a m
     number_same m h =
         weighed_at m h (range_with_len 0 8) refl
-        ∙ get_or-range_with_len 0 8 (supply a m) 0 (offered_below m (supply a m) (assigns.of_its_menu m h))
+        ∙ get_or-range_with_len 0 8 (supply a m) 0 (supply_below m)
         ∙ zero-add (supply a m)
 
     pub selects_all : Selects n (selection_of n a)
     selects_all =
         record {
           one_each = length-map-range_with_len (selected n a) 0 (modules n);
-          as_many = λ i h. ap length (selection_at i h) ∙ length-map (numbers n i) (chosen (supply a i)) ∙ length-standing (menu n i).map 0 (range_with_len 0 8) (menu n i).choices (sym (eight_choices i h));
+          as_many = λ i h. ap length (selection_at i h) ∙ length-map (numbers n i) (chosen (supply a i)) ∙ length-standing (menu n i).map 0 (range_with_len 0 8) (menu n i).values (sym (eight_choices i h));
           binary = λ i h. subst (All Binary) (sym (selection_at i h)) (binary i (numbers n i));
-          exactly_one = λ i h. ap total (selection_at i h) ∙ (let b = assigns.of_its_menu i h in let l = offered_below i (supply a i) b in total_marked (menu n i).map (supply a i) 0 8 (omega arith) (omega arith) b);
+          exactly_one = λ i h. ap total (selection_at i h) ∙ (let l = supply_below i in total_marked (menu n i).map (supply a i) 0 8 (omega arith) (omega arith) (assigns.of_its_menu i h));
         }
       where
         binary : (i : ℕ) (qs : List ℕ) → All Binary (map (chosen (supply a i)) qs)
@@ -212,7 +219,7 @@ module _ (n : Netlist) (ok : lawful n ≡ true) where
     one_at : (m : ℕ) → (h : m < modules n) → (0 ≤ weighed (numbers n m) (get_or u m [])) × (weighed (numbers n m) (get_or u m []) < 0 + 8) × Offered n m (weighed (numbers n m) (get_or u m [])) × (marks (menu n m).map (weighed (numbers n m) (get_or u m [])) 0 8 ≡ get_or u m [])
     one_at m h =
         marked_one (menu n m).map 0 8 (get_or u m [])
-        (selects.as_many m h ∙ length-standing (menu n m).map 0 (menu n m).choices (range_with_len 0 8) (eight_choices m h))
+        (selects.as_many m h ∙ length-standing (menu n m).map 0 (menu n m).values (range_with_len 0 8) (eight_choices m h))
         (selects.binary m h) (selects.exactly_one m h)
 
     assignment_at : (m : ℕ) → m < modules n → supply (assignment_of n u) m ≡ weighed (numbers n m) (get_or u m [])

@@ -1,5 +1,5 @@
 -- What a walk's table of arrivals says of the paths of a design. Assumes nothing.
-use Rattle.std.proofs.Common.{◌≡◌, ℕ, ◌<◌, max, true, List, ◌++◌, length, get_or, Decides, sym, refl, ap, ◌∙◌, subst, ⊎_elim, arith}
+use Rattle.std.proofs.Common.{◌≡◌, ℕ, ◌<◌, max, true, List, ◌++◌, length, get_or, IsTrue, ◌↔◌, sym, refl, ap, ◌∙◌, subst, ⊎_elim, arith}
 use Rattle.netlist.specs.Netlist.{Netlist, modules, lawful}
 use Rattle.netlist.proofs.Words.{keeps_rules}
 use Rattle.std.proofs.lemmas.List.{get_or_append_left}
@@ -39,7 +39,7 @@ module _ (n : Netlist) (ok : lawful n ≡ true) where
     longest = greatest_longest g (forward n ok _) (λ k i l r. refl)
 
     -- the longest path decides for all
-    pub meets_decides : Decides (meets n a) (Meets n a)
+    pub meets_decides : IsTrue (meets n a) ↔ Meets n a
     meets_decides = (all, some)
       where
         all : meets n a ≡ true → Meets n a

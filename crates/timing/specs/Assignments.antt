@@ -1,9 +1,8 @@
 -- Assignments of a design, and the order in which they are listed. Assumes nothing.
 use Rattle.std.specs.Prelude.{◌≡◌, ℕ, ◌<◌, Bool, true, false, ◌&&◌, ◌||◌, List, [], ◌∷◌, length, ◌==◌, nat_lt, slice_index}
-use Rattle.netlist.specs.declared.parts.Menu.{Menu}
 use Rattle.netlist.specs.Netlist.{Netlist, modules}
 use Rattle.netlist.specs.Rules.{Offered}
-use Rattle.netlist.specs.Slots.{bit}
+use Rattle.netlist.specs.Slots.{bit, Menu}
 
 -- a list of supply numbers, module 0 first; the supply that it names for module m
 abbrev pub supply : List ℕ → ℕ → ℕ

@@ -1,5 +1,5 @@
 -- Paths and their delays. Assumes nothing.
-use Rattle.std.specs.Prelude.{◌≡◌, ℕ, ◌+◌, ◌<◌, ◌≤◌, cond, List, [], ◌∷◌, length, ◌≢◌, slice_index_or}
+use Rattle.std.specs.Prelude.{◌≡◌, ℕ, ◌+◌, ◌<◌, ◌≤◌, if◌then◌else◌, List, [], ◌∷◌, length, ◌≢◌, slice_index_or}
 use Rattle.netlist.specs.declared.parts.Net.{Net}
 use Rattle.netlist.specs.Netlist.{Netlist, modules}
 use Rattle.netlist.specs.Rules.{choice, net, no_net}
@@ -54,7 +54,7 @@ module _ (n : Netlist) (a : List ℕ) where
   module_delay m = (choice n m (supply a m)).delay
 
   abbrev pub net_delay : ℕ → ℕ
-  net_delay i = (net n i).wire + cond (needs_shifter n a i) n.terms.shifter.delay 0
+  net_delay i = (net n i).wire + (if needs_shifter n a i then n.terms.shifter.delay else 0)
 
   abbrev pub model : Model
   model = record { start = λ _. 0; at_module = module_delay; on_net = net_delay }

@@ -1,5 +1,5 @@
 -- The power of an assignment. Assumes nothing.
-use Rattle.std.specs.Prelude.{ℕ, ◌+◌, cond, List, length}
+use Rattle.std.specs.Prelude.{ℕ, ◌+◌, if◌then◌else◌, List, length}
 use Rattle.netlist.specs.Netlist.{Netlist, modules}
 use Rattle.netlist.specs.Rules.{choice}
 use Rattle.timing.specs.Assignments.{supply}
@@ -12,7 +12,7 @@ module _ (n : Netlist) (a : List ℕ) where
 
   -- the shifter power where net i needs a shifter
   abbrev pub net_power : ℕ → ℕ
-  net_power i = cond (needs_shifter n a i) n.terms.shifter.power 0
+  net_power i = (if needs_shifter n a i then n.terms.shifter.power else 0)
 
   -- of all modules and all shifters
   abbrev pub power : ℕ

@@ -1,5 +1,5 @@
 -- The published voltage assignment problem, in its own variables. Assumes nothing.
-use Rattle.std.specs.Prelude.{◌≡◌, ℕ, ◌+◌, ◌*◌, ◌<◌, ◌≤◌, cond, ◌⊎◌, List, [], ◌∷◌, map, length, ◌==◌, ◌≢◌, nat_le, slice_index, slice_index_or}
+use Rattle.std.specs.Prelude.{◌≡◌, ℕ, ◌+◌, ◌*◌, ◌<◌, ◌≤◌, if◌then◌else◌, ◌⊎◌, List, [], ◌∷◌, map, length, ◌==◌, ◌≢◌, nat_le, slice_index, slice_index_or}
 use Rattle.netlist.specs.declared.parts.Choice.{Choice}
 use Rattle.netlist.specs.Netlist.{Netlist, modules}
 use Rattle.netlist.specs.Rules.{menu, net}
@@ -28,7 +28,7 @@ Binary x = (x ≡ 0) ⊎ (x ≡ 1)
 
 -- u_i(q) is 1 where choice q stands for the supply s that module i has, else 0
 abbrev pub chosen : ℕ → ℕ → ℕ
-chosen s q = cond (q == s) 1 0
+chosen s q = (if q == s then 1 else 0)
 
 -- The graph with the virtual module, which feeds all modules without incoming nets and is fed by all without outgoing
 -- ones.
@@ -45,10 +45,10 @@ pub data Edge : Type 0 where
 module _ (n : Netlist) where
   -- the choices q of module i: v_i(q), d_i(q), p_i(q), and the number of the supply that each stands for
   abbrev pub offers : ℕ → List Choice
-  offers i = standing (menu n i).map 0 (menu n i).choices
+  offers i = standing (menu n i).map 0 (menu n i).values
 
   abbrev pub voltages : ℕ → List ℕ
-  voltages i = standing (menu n i).map 0 n.supplies.voltages
+  voltages i = standing (menu n i).map 0 n.supplies.values
 
   abbrev pub delays : ℕ → List ℕ
   delays i = map (λ (c : Choice). c.delay) (offers i)
@@ -104,7 +104,7 @@ module _ (n : Netlist) where
 
     -- LS(i, j): no level shifter where the driver's voltage is at least the receiver's
     abbrev pub ls : ℕ → ℕ → ℕ
-    ls i j = cond (nat_le (voltage_at j) (voltage_at i)) 0 1
+    ls i j = (if nat_le (voltage_at j) (voltage_at i) then 0 else 1)
 
     abbrev pub shifter_on : ℕ → ℕ
     shifter_on e = ls (net n e).driver (net n e).receiver

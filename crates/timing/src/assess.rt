@@ -22,9 +22,7 @@ pub fn assess(design: &Design, supplies: &[u8]) -> Option<Figures>
     ensures words { MatchOption result (Assigns (view design.now) supplies.now → ⊥) (Judged (view design.now) supplies.now) }
     ensures one_to_one { OneToOne (view design.now) }
 {
-    let Some(assignment) = Assignment::of(design, supplies) else {
-        return None;
-    };
+    let assignment = Assignment::of(design, supplies)?;
     let delay = assignment.longest_delay();
     Some(Figures {
         power: assignment.power(),

@@ -10,10 +10,12 @@ use netlist::design::Design;
 fn voltage(design: &Design, supply: u32) -> u32
     ensures { result ≡ voltage_of (view design.now) supply }
 {
-    if supply >= 8 {
-        return 0;
-    }
-    design.supplies().voltages[supply as usize]
+    design
+        .supplies()
+        .values
+        .get(supply as usize)
+        .copied()
+        .unwrap_or(0)
 }
 
 // Whether a net from one supply to another needs a shifter: it does when the driver's voltage is below the receiver's.

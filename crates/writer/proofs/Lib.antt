@@ -1,3 +1,4 @@
-pub mod Appended
+pub mod Left
 pub mod Lengths
+pub mod Numbers
 pub mod Written

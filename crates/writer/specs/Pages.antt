@@ -1,10 +1,7 @@
--- What is written on a page. Assumes nothing.
-use Rattle.std.specs.Prelude.{ℕ, List, ◌++◌, take}
-use Rattle.writer.specs.declared.page.Page.{Page}
+-- A page that a record is written on. Assumes nothing.
+use Rattle.std.specs.Prelude.{ℕ, ◌+◌, ◌≤◌, List, length}
+use Rattle.arrayvec.specs.ArrayVec.{ArrayVec, array_vec_len}
+use Rattle.writer.specs.declared.page.TheConstants.{MOST}
 
-abbrev pub written : Page → List ℕ
-written p = take p.len p.bytes
-
--- what a page holds after more bytes are put on it: it drops what does not fit
-abbrev pub then_put : List ℕ → List ℕ → List ℕ
-then_put w x = take 4445 (w ++ x)
+abbrev pub HasRoom : ArrayVec ℕ → List ℕ → Type 0
+HasRoom page bytes = array_vec_len page + length bytes ≤ MOST

@@ -26,62 +26,64 @@ impl CriticalPath {
     }
 }
 
-// Whether the arrival at a module is the one over this net.
-fn comes_over(assignment: &Assignment<'_, '_>, arrivals: &[u32; 64], m: u32, i: u32) -> bool
-    requires into { Into (planned assignment.now) m i }
-    ensures { result ≡ (over_net (timed (planned assignment.now) (named assignment.now)) arrivals.now i + module_delay (planned assignment.now) (named assignment.now) m == slice_index arrivals.now m) }
-{
-    let driver = assignment.design().nets()[i as usize].driver;
-    let over = u64::from(arrivals[driver as usize]) + u64::from(assignment.net_delay(i));
-    over + u64::from(assignment.choice(m).delay) == u64::from(arrivals[m as usize])
+// An assignment and its latest arrivals, along which paths are traced back.
+#[derive(Drop)]
+struct Tracer<'a, 'd, 's> {
+    assignment: &'a Assignment<'d, 's>,
+    arrivals: [u32; 64],
+    ghost known: { arrivals ≡ latest (planned assignment.now) (named assignment.now) ++ replicate (64 - modules (planned assignment.now)) 0 },
 }
 
-// The net over which the arrival at a module comes; none where no net leads to it.
-fn last_net(assignment: &Assignment<'_, '_>, arrivals: &[u32; 64], m: u32) -> Option<u32>
-    requires within { m < modules (planned assignment.now) }
-    requires known { arrivals.now ≡ latest (planned assignment.now) (named assignment.now) ++ replicate (64 - modules (planned assignment.now)) 0 }
-    ensures { MatchOption result (fan_in (planned assignment.now) m ≡ []) (ComesOver (planned assignment.now) (named assignment.now) arrivals.now m) }
-{
-    for i in assignment.design().fan_in(m) {
-        if comes_over(assignment, arrivals, m, *i) {
-            return Some(*i);
+impl Tracer<'_, '_, '_> {
+    // Whether the arrival at a module is the one over this net.
+    fn comes_over(&self, m: u32, i: u32) -> bool
+        requires { Into (planned self.now.assignment.now) m i }
+        ensures { result ≡ (over_net (timed (planned self.now.assignment.now) (named self.now.assignment.now)) self.now.arrivals i + module_delay (planned self.now.assignment.now) (named self.now.assignment.now) m == slice_index self.now.arrivals m) }
+    {
+        let driver = self.assignment.design().nets()[i as usize].driver;
+        let before = u64::from(self.arrivals[driver as usize]);
+        let over = before + u64::from(self.assignment.net_delay(i));
+        over + u64::from(self.assignment.choice(m).delay) == u64::from(self.arrivals[m as usize])
+    }
+
+    // The net over which the arrival at a module comes; none where no net leads to it.
+    fn last_net(&self, m: u32) -> Option<u32>
+        requires { m < modules (planned self.now.assignment.now) }
+        ensures { MatchOption result (fan_in (planned self.now.assignment.now) m ≡ []) (ComesOver (planned self.now.assignment.now) (named self.now.assignment.now) self.now.arrivals m) }
+    {
+        let nets = self.assignment.design().fan_in(m);
+        nets.iter().copied().find(
+            |i|
+                requires { Into (planned self.now.assignment.now) m i.now }
+            { self.comes_over(m, *i) },
+        )
+    }
+
+    // The path back from a module, net by net, along which its arrival came.
+    fn trace(&self, end: u32) -> CriticalPath
+        requires { end < modules (planned self.now.assignment.now) }
+        ensures end { result.end ≡ end }
+        ensures path { PathTo (timed (planned self.now.assignment.now) (named self.now.assignment.now)) end (steps result) }
+        ensures delay { path_delay (timed (planned self.now.assignment.now) (named self.now.assignment.now)) end (steps result) ≡ slice_index self.now.arrivals end }
+    {
+        let mut nets = [0u32; 64];
+        let mut count: usize = 0;
+        let mut at = end;
+        while let Some(i) = self.last_net(at) {
+            nets[count] = i;
+            count += 1;
+            at = self.assignment.design().nets()[i as usize].driver;
         }
+        CriticalPath { end, nets, count }
     }
-    None
 }
 
-// The path back from a module, net by net, along which its arrival came.
-fn trace(assignment: &Assignment<'_, '_>, arrivals: &[u32; 64], end: u32) -> CriticalPath
-    requires within { end < modules (planned assignment.now) }
-    requires known { arrivals.now ≡ latest (planned assignment.now) (named assignment.now) ++ replicate (64 - modules (planned assignment.now)) 0 }
-    ensures end { result.end ≡ end }
-    ensures path { PathTo (timed (planned assignment.now) (named assignment.now)) end (steps result) }
-    ensures delay { path_delay (timed (planned assignment.now) (named assignment.now)) end (steps result) ≡ slice_index arrivals.now end }
+// The module with the greatest arrival, the first of several; none where there are no modules.
+fn latest_module(arrivals: &[u32]) -> Option<usize>
+    ensures { MatchOption result (length arrivals.now ≡ 0) (λ m. (m < length arrivals.now) × (slice_index arrivals.now m ≡ fold max 0 arrivals.now)) }
 {
-    let mut nets = [0u32; 64];
-    let mut count: usize = 0;
-    let mut at = end;
-    while let Some(i) = last_net(assignment, arrivals, at) {
-        nets[count] = i;
-        count += 1;
-        at = assignment.design().nets()[i as usize].driver;
-    }
-    CriticalPath { end, nets, count }
-}
-
-// The module with the greatest arrival, the first of several.
-fn latest_module(arrivals: &[u32]) -> usize
-    requires { 0 < length arrivals.now }
-    ensures within { result < length arrivals.now }
-    ensures greatest { slice_index arrivals.now result ≡ fold max 0 arrivals.now }
-{
-    let mut best: usize = 0;
-    for m in 1..arrivals.len() {
-        if arrivals[m] > arrivals[best] {
-            best = m;
-        }
-    }
-    best
+    let greatest = arrivals.iter().copied().max()?;
+    arrivals.iter().position(|t| *t == greatest)
 }
 
 // A longest path of an assignment; none where there are no modules. Which of several is open.
@@ -90,11 +92,12 @@ pub fn critical_path(assignment: &Assignment<'_, '_>) -> Option<CriticalPath>
     ensures path { IfSome result (λ p. PathTo (timed (planned assignment.now) (named assignment.now)) p.end (steps p)) }
     ensures longest { IfSome result (λ p. Longest (timed (planned assignment.now) (named assignment.now)) (path_delay (timed (planned assignment.now) (named assignment.now)) p.end (steps p))) }
 {
-    let modules = assignment.design().menus().len();
-    if modules == 0 {
-        return None;
-    }
     let arrivals = assignment.arrivals();
-    let end = latest_module(&arrivals[0..modules]);
-    Some(trace(assignment, &arrivals, end as u32))
+    let modules = assignment.design().menus().len();
+    let end = latest_module(&arrivals[0..modules])?;
+    let tracer = Tracer {
+        assignment,
+        arrivals,
+    };
+    Some(tracer.trace(end as u32))
 }

@@ -8,9 +8,9 @@ ghost use Rattle.netlist.specs.Rules.{Rules};
 ghost use Rattle.netlist.specs.View.{drawn};
 
 use super::Design;
+use crate::indexed::IndexedNets;
 use crate::parts::{Choice, Menu, Net, Shifter, Supplies, Terms, voltage_in_limits};
 use crate::refusal::Refusal;
-use crate::{indexed, menu};
 use std::alloc::{AllocError, Global};
 
 #[derive(Drop)]
@@ -23,13 +23,11 @@ impl Draft {
     pub fn new(heap: Global) -> Result<Draft, AllocError>
         ensures { IfOk result (λ d. drawn d ≡ blank) }
     {
-        let (nets, fan_in) = indexed::new(heap)?;
         let design = Design {
             terms: Terms::WIDEST,
             supplies: Supplies::NONE,
             menus: Vec::with_capacity(heap, 64)?,
-            nets,
-            fan_in,
+            nets: IndexedNets::new(heap)?,
         };
         Ok(Draft { design })
     }
@@ -38,7 +36,7 @@ impl Draft {
     pub fn clear(&mut self)
         ensures { drawn self.new ≡ blank }
     {
-        indexed::clear(&mut self.design.nets, &mut self.design.fan_in);
+        self.design.nets.clear();
         self.design.menus.clear();
         self.design.supplies = Supplies::NONE;
         self.design.terms = Terms::WIDEST;
@@ -53,16 +51,17 @@ impl Draft {
         ensures answer { refused result ≡ first_broken (terms_rules cycle shifter_delay shifter_power) }
         ensures after { drawn self.new ≡ unless_refused (refused result) (drawn self.old) (with_terms (drawn self.old) cycle shifter_delay shifter_power) }
     {
-        if cycle < 1 || cycle > 2_000_000 || shifter_delay > 10_000 || shifter_power > 10_000 {
-            return Err(Refusal::Limit);
-        }
-        self.design.terms = Terms {
+        let terms = Terms {
             cycle,
             shifter: Shifter {
                 delay: shifter_delay,
                 power: shifter_power,
             },
         };
+        if !terms.in_limits() {
+            return Err(Refusal::Limit);
+        }
+        self.design.terms = terms;
         Ok(())
     }
 
@@ -82,7 +81,7 @@ impl Draft {
         }
         let mut supplies = self.design.supplies;
         supplies.map += 1 << number;
-        supplies.voltages[number as usize] = voltage;
+        supplies.values[number as usize] = voltage;
         self.design.supplies = supplies;
         Ok(())
     }
@@ -92,10 +91,14 @@ impl Draft {
         ensures answer { refused result ≡ first_broken (module_rules (drawn self.old) map choices.now) }
         ensures after { drawn self.new ≡ unless_refused (refused result) (drawn self.old) (with_module (drawn self.old) map choices.now) }
     {
-        if !menu::in_limits(map, choices) {
+        let menu = Menu {
+            map,
+            values: *choices,
+        };
+        if !menu.in_limits() {
             return Err(Refusal::Limit);
         }
-        if !menu::in_order(map, choices) {
+        if !menu.in_order() {
             return Err(Refusal::Order);
         }
         if map == 0 || map & self.design.supplies.map != map {
@@ -104,7 +107,7 @@ impl Draft {
         if self.design.menus.len() >= 64 {
             return Err(Refusal::TableFull);
         }
-        self.design.menus.push_reserved(Menu::at_bits(map, choices));
+        self.design.menus.push_reserved(menu.trimmed());
         Ok(())
     }
 
@@ -119,7 +122,7 @@ impl Draft {
         if driver >= receiver || receiver as usize >= self.design.menus.len() {
             return Err(Refusal::WrongEnds);
         }
-        if self.design.nets.items.len() >= 256 {
+        if self.design.nets.len() >= 256 {
             return Err(Refusal::TableFull);
         }
         let net = Net {
@@ -127,7 +130,7 @@ impl Draft {
             receiver,
             wire,
         };
-        indexed::push(&mut self.design.nets, &mut self.design.fan_in, net);
+        self.design.nets.push(net);
         Ok(())
     }
 

@@ -28,7 +28,7 @@ impl Design {
     pub fn nets(&self) -> &[Net]
         ensures { result.now ≡ (view self.now).nets }
     {
-        self.nets.items.as_slice()
+        self.nets.as_slice()
     }
 
     // The numbers of the nets into a module, lowest first; none where there is no such module.
@@ -38,6 +38,6 @@ impl Design {
         if module >= 64 {
             return &[];
         }
-        self.fan_in.of(module)
+        self.nets.fan_in(module)
     }
 }

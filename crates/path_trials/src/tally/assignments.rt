@@ -1,48 +1,52 @@
 // The assignments on which both sides agreed.
-use super::count;
+use super::Counter;
 use crate::paths::Findings;
-use std::io;
+use std::fmt;
 
 #[derive(Default, Drop)]
 pub struct AssignmentTally {
-    assignments: u32,
-    shifters: u32,
-    paths: u32,
-    most_paths: u32,
-    met: u32,
-    just_met: u32,
-    missed: u32,
-    just_missed: u32,
+    assignments: Counter,
+    shifters: Counter,
+    paths: Counter,
+    most_paths: usize,
+    met: Counter,
+    just_met: Counter,
+    missed: Counter,
+    just_missed: Counter,
 }
 
 impl AssignmentTally {
     pub(crate) fn add(&mut self, findings: &Findings, cycle: u32) {
-        count(&mut self.assignments, true);
-        self.shifters = self.shifters.saturating_add(findings.shifters);
-        self.paths = self.paths.saturating_add(findings.paths);
+        self.assignments.add(1);
+        self.shifters.add(findings.shifters);
+        self.paths.add(findings.paths);
         self.most_paths = self.most_paths.max(findings.paths);
         self.add_delay(findings.longest, cycle);
     }
 
     fn add_delay(&mut self, longest: u32, cycle: u32) {
-        count(&mut self.met, longest <= cycle);
-        count(&mut self.just_met, longest == cycle);
-        count(&mut self.missed, longest > cycle);
-        count(&mut self.just_missed, longest == cycle.saturating_add(1));
+        self.met.add_if(longest <= cycle);
+        self.just_met.add_if(longest == cycle);
+        self.missed.add_if(longest > cycle);
+        self.just_missed.add_if(longest == cycle.saturating_add(1));
     }
+}
 
-    pub(crate) fn print(&self, rt: &HostRuntime) -> io::Result<()> {
-        let assignments = self.assignments;
-        let shifters = self.shifters;
-        println!(rt; "assignments {assignments}: {shifters} shifters needed")?;
-        let paths = self.paths;
-        let most = self.most_paths;
-        println!(rt; "paths {paths}: at most {most} in one design")?;
-        let met = self.met;
-        let just_met = self.just_met;
-        println!(rt; "cycle met {met}: {just_met} with nothing to spare")?;
-        let missed = self.missed;
-        let just_missed = self.just_missed;
-        println!(rt; "cycle missed {missed}: {just_missed} by 1 ps")
+impl fmt::Display for AssignmentTally {
+    fn fmt<W: fmt::Write>(&self, f: &mut fmt::Formatter<W>) -> fmt::Result {
+        let AssignmentTally {
+            assignments,
+            shifters,
+            paths,
+            most_paths,
+            met,
+            just_met,
+            missed,
+            just_missed,
+        } = self;
+        writeln!(f, "assignments {assignments}: {shifters} shifters needed")?;
+        writeln!(f, "paths {paths}: at most {most_paths} in one design")?;
+        writeln!(f, "cycle met {met}: {just_met} with nothing to spare")?;
+        write!(f, "cycle missed {missed}: {just_missed} by 1 ps")
     }
 }

@@ -1,35 +1,45 @@
 // The bytes that were no assignment to either side.
-use super::count;
-use crate::assign::Flaw;
-use std::io;
+use super::Counter;
+use crate::draw::assignment::Flaw;
+use std::fmt;
 
 #[derive(Default, Drop)]
 pub struct FlawTally {
-    flaws: u32,
-    too_short: u32,
-    too_long: u32,
-    off_menu: u32,
-    above_seven: u32,
+    flaws: Counter,
+    too_short: Counter,
+    too_long: Counter,
+    off_menu: Counter,
+    above_seven: Counter,
 }
 
 impl FlawTally {
     pub(crate) fn add(&mut self, flaw: Flaw) {
-        count(&mut self.flaws, true);
+        self.flaws.add(1);
         match flaw {
-            Flaw::TooShort => count(&mut self.too_short, true),
-            Flaw::TooLong => count(&mut self.too_long, true),
-            Flaw::OffMenu => count(&mut self.off_menu, true),
-            Flaw::AboveSeven => count(&mut self.above_seven, true),
+            Flaw::TooShort => self.too_short.add(1),
+            Flaw::TooLong => self.too_long.add(1),
+            Flaw::OffMenu => self.off_menu.add(1),
+            Flaw::AboveSeven => self.above_seven.add(1),
         }
     }
+}
 
-    pub(crate) fn print(&self, rt: &HostRuntime) -> io::Result<()> {
-        let flaws = self.flaws;
-        let too_short = self.too_short;
-        let too_long = self.too_long;
-        println!(rt; "no assignment {flaws}: {too_short} too short, {too_long} too long")?;
-        let off_menu = self.off_menu;
-        let above_seven = self.above_seven;
-        println!(rt; "  {off_menu} with a supply off a menu, {above_seven} with a byte above 7")
+impl fmt::Display for FlawTally {
+    fn fmt<W: fmt::Write>(&self, f: &mut fmt::Formatter<W>) -> fmt::Result {
+        let FlawTally {
+            flaws,
+            too_short,
+            too_long,
+            off_menu,
+            above_seven,
+        } = self;
+        writeln!(
+            f,
+            "no assignment {flaws}: {too_short} too short, {too_long} too long"
+        )?;
+        write!(
+            f,
+            "  {off_menu} with a supply off a menu, {above_seven} with a byte above 7"
+        )
     }
 }

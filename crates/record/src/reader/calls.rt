@@ -1,14 +1,13 @@
 // The calls of a reader.
-ghost use Rattle.std.specs.Prelude.{◌≡◌, ◌<◌, true, length, IfOk};
+ghost use Rattle.std.specs.Prelude.{◌≡◌, ◌<◌, true};
 ghost use Rattle.record.specs.HandsOut.{HandsOut};
 ghost use Rattle.record.specs.Reader.{step, step_from, advanced, at_start, from_module, from_net};
 ghost use Rattle.record.specs.declared.reader.State.TheVariants.{Head as AtHead, Supplies as AtSupplies, Module as AtModule, Net as AtNet};
-ghost use Rattle.record.specs.Stands.{announced, sound};
+ghost use Rattle.record.specs.Stands.{announced};
 
 use super::{Block, Kind, Reader, Stand, State};
-use crate::block::{in_block, read_head, read_net, read_supplies};
+use crate::cursor::Cursor;
 use crate::head::Head;
-use crate::menus::read_menu;
 use faults::RecordFault;
 
 fn net_state(head: Head, i: u32) -> State
@@ -30,117 +29,6 @@ fn module_state(head: Head, m: u32) -> State
         State::Module(m)
     } else {
         net_state(head, 0)
-    }
-}
-
-fn head_step(bytes: &[u8], stand: Stand, place: &mut Block) -> Result<(Kind, Stand), RecordFault>
-    requires { sound bytes.now stand ≡ true }
-    ensures step { advanced stand result place.new ≡ step_from AtHead bytes.now stand place.old }
-    ensures sound { IfOk result (λ x. sound bytes.now x.1 ≡ true) }
-{
-    let (head, at) = in_block(0, read_head(bytes, stand.at))?;
-    place.head = head;
-    Ok((
-        Kind::Head,
-        Stand {
-            state: State::Supplies,
-            at,
-            head,
-            supplies: stand.supplies,
-        },
-    ))
-}
-
-fn supplies_step(
-    bytes: &[u8],
-    stand: Stand,
-    place: &mut Block,
-) -> Result<(Kind, Stand), RecordFault>
-    requires { sound bytes.now stand ≡ true }
-    ensures step { advanced stand result place.new ≡ step_from AtSupplies bytes.now stand place.old }
-    ensures sound { IfOk result (λ x. sound bytes.now x.1 ≡ true) }
-{
-    let (supplies, at) = in_block(1, read_supplies(bytes, stand.at))?;
-    place.supplies = supplies;
-    let state = module_state(stand.head, 0);
-    Ok((
-        Kind::Supplies,
-        Stand {
-            state,
-            at,
-            head: stand.head,
-            supplies: supplies.map,
-        },
-    ))
-}
-
-fn module_step(
-    bytes: &[u8],
-    stand: Stand,
-    m: u32,
-    place: &mut Block,
-) -> Result<(Kind, Stand), RecordFault>
-    requires { (sound bytes.now stand ≡ true) × (m < stand.head.modules) }
-    ensures step { advanced stand result place.new ≡ step_from (AtModule m) bytes.now stand place.old }
-    ensures sound { IfOk result (λ x. sound bytes.now x.1 ≡ true) }
-{
-    let (menu, at) = read_menu(bytes, stand.supplies, 2 + m as usize, stand.at)?;
-    place.menu = menu;
-    let state = module_state(stand.head, m + 1);
-    Ok((
-        Kind::Module,
-        Stand {
-            state,
-            at,
-            head: stand.head,
-            supplies: stand.supplies,
-        },
-    ))
-}
-
-fn net_step(
-    bytes: &[u8],
-    stand: Stand,
-    i: u32,
-    place: &mut Block,
-) -> Result<(Kind, Stand), RecordFault>
-    requires { (sound bytes.now stand ≡ true) × (i < stand.head.nets) }
-    ensures step { advanced stand result place.new ≡ step_from (AtNet i) bytes.now stand place.old }
-    ensures sound { IfOk result (λ x. sound bytes.now x.1 ≡ true) }
-{
-    let block = 2 + stand.head.modules as usize + i as usize;
-    let (net, at) = in_block(block, read_net(bytes, stand.head.modules, stand.at))?;
-    place.net = net;
-    let state = net_state(stand.head, i + 1);
-    Ok((
-        Kind::Net,
-        Stand {
-            state,
-            at,
-            head: stand.head,
-            supplies: stand.supplies,
-        },
-    ))
-}
-
-// What the reader stands at and what is left to read decide what comes.
-fn advance(bytes: &[u8], stand: Stand, place: &mut Block) -> Result<(Kind, Stand), RecordFault>
-    requires { sound bytes.now stand ≡ true }
-    ensures step { advanced stand result place.new ≡ step bytes.now stand place.old }
-    ensures sound { IfOk result (λ x. sound bytes.now x.1 ≡ true) }
-{
-    let at = stand.at;
-    match (stand.state, &bytes[at..]) {
-        (State::Failed(fault), _) => Err(fault),
-        (State::End, []) => Ok((Kind::End, stand)),
-        (State::End, [_, ..]) => {
-            let block = 2 + stand.head.modules as usize + stand.head.nets as usize;
-            Err(RecordFault::BytesFollow { block, at })
-        }
-        (State::Head, _) => head_step(bytes, stand, place),
-        (State::Supplies, _) => supplies_step(bytes, stand, place),
-        (State::Module(m), _) => module_step(bytes, stand, m, place),
-        (State::Net(i), _) => net_step(bytes, stand, i, place),
     }
 }
 
@@ -168,15 +56,111 @@ impl<'a> Reader<'a> {
         ensures stand { self.new.stand ≡ (step self.old.bytes.now self.old.stand place.old).stand }
         ensures bytes { self.new.bytes ≡ self.old.bytes }
     {
-        match advance(self.bytes, self.stand, place) {
-            Ok((kind, stand)) => {
-                self.stand = stand;
-                Ok(kind)
-            }
-            Err(fault) => {
-                self.stand.state = State::Failed(fault);
-                Err(fault)
-            }
+        let answer = self.advance(place);
+        if let Err(fault) = answer {
+            self.stand.state = State::Failed(fault);
         }
+        answer
+    }
+
+    // What the reader stands at and what is left to read decide what comes.
+    fn advance(&mut self, place: &mut Block) -> Result<Kind, RecordFault>
+        ensures step { advanced self.new.stand result place.new ≡ step self.old.bytes.now self.old.stand place.old }
+        ensures bytes { self.new.bytes ≡ self.old.bytes }
+    {
+        let Stand {
+            state,
+            at,
+            head,
+            ..
+        } = self.stand;
+        match (state, &self.bytes[at..]) {
+            (State::Failed(fault), _) => Err(fault),
+            (State::End, []) => Ok(Kind::End),
+            (State::End, [_, ..]) => {
+                let block = 2 + head.modules as usize + head.nets as usize;
+                Err(RecordFault::BytesFollow { block, at })
+            }
+            (State::Head, _) => self.head_step(place),
+            (State::Supplies, _) => self.supplies_step(place),
+            (State::Module(m), _) => self.module_step(m, place),
+            (State::Net(i), _) => self.net_step(i, place),
+        }
+    }
+
+    fn cursor(&self) -> Cursor<'a>
+        ensures bytes { result.bytes ≡ self.now.bytes }
+        ensures at { result.at ≡ self.now.stand.at }
+    {
+        Cursor {
+            bytes: self.bytes,
+            at: self.stand.at,
+        }
+    }
+
+    fn head_step(&mut self, place: &mut Block) -> Result<Kind, RecordFault>
+        ensures step { advanced self.new.stand result place.new ≡ step_from AtHead self.old.bytes.now self.old.stand place.old }
+        ensures bytes { self.new.bytes ≡ self.old.bytes }
+    {
+        let mut cursor = self.cursor();
+        let head = cursor.head().map_err(|fault| (0, fault))?;
+        place.head = head;
+        self.stand = Stand {
+            state: State::Supplies,
+            at: cursor.at,
+            head,
+            ..self.stand
+        };
+        Ok(Kind::Head)
+    }
+
+    fn supplies_step(&mut self, place: &mut Block) -> Result<Kind, RecordFault>
+        ensures step { advanced self.new.stand result place.new ≡ step_from AtSupplies self.old.bytes.now self.old.stand place.old }
+        ensures bytes { self.new.bytes ≡ self.old.bytes }
+    {
+        let mut cursor = self.cursor();
+        let supplies = cursor.supplies().map_err(|fault| (1, fault))?;
+        place.supplies = supplies;
+        self.stand = Stand {
+            state: module_state(self.stand.head, 0),
+            at: cursor.at,
+            supplies: supplies.map,
+            ..self.stand
+        };
+        Ok(Kind::Supplies)
+    }
+
+    fn module_step(&mut self, m: u32, place: &mut Block) -> Result<Kind, RecordFault>
+        requires { m < self.old.stand.head.modules }
+        ensures step { advanced self.new.stand result place.new ≡ step_from (AtModule m) self.old.bytes.now self.old.stand place.old }
+        ensures bytes { self.new.bytes ≡ self.old.bytes }
+    {
+        let mut cursor = self.cursor();
+        let menu = cursor.menu(self.stand.supplies, 2 + m as usize)?;
+        place.menu = menu;
+        self.stand = Stand {
+            state: module_state(self.stand.head, m + 1),
+            at: cursor.at,
+            ..self.stand
+        };
+        Ok(Kind::Module)
+    }
+
+    fn net_step(&mut self, i: u32, place: &mut Block) -> Result<Kind, RecordFault>
+        requires { i < self.old.stand.head.nets }
+        ensures step { advanced self.new.stand result place.new ≡ step_from (AtNet i) self.old.bytes.now self.old.stand place.old }
+        ensures bytes { self.new.bytes ≡ self.old.bytes }
+    {
+        let head = self.stand.head;
+        let block = 2 + head.modules as usize + i as usize;
+        let mut cursor = self.cursor();
+        let net = cursor.net(head.modules).map_err(|fault| (block, fault))?;
+        place.net = net;
+        self.stand = Stand {
+            state: net_state(head, i + 1),
+            at: cursor.at,
+            ..self.stand
+        };
+        Ok(Kind::Net)
     }
 }

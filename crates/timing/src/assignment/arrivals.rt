@@ -1,5 +1,5 @@
 // The timing of an assignment.
-ghost use Rattle.std.specs.Prelude.{◌≡◌, ℕ, ◌-◌, ◌<◌, max, ◌++◌, replicate, Decides, fold, slice_index};
+ghost use Rattle.std.specs.Prelude.{◌≡◌, ℕ, ◌-◌, ◌<◌, max, ◌++◌, replicate, IsTrue, ◌↔◌, fold, slice_index};
 ghost use Rattle.netlist.specs.Netlist.{modules};
 ghost use Rattle.timing.specs.Arrivals.{latest, longest_delay, LongestTo, Longest, meets as meets_cycle};
 ghost use Rattle.timing.specs.Paths.{timed, Meets};
@@ -30,8 +30,8 @@ impl Assignment<'_, '_> {
     // Whether no path's delay exceeds the cycle time: the published timing constraint.
     pub fn meets(&self) -> bool
         ensures value { result ≡ meets_cycle (planned self.now) (named self.now) }
-        ensures paths { Decides result (Meets (planned self.now) (named self.now)) }
-        ensures published { Decides result (InTime (planned self.now) (selection_of (planned self.now) (named self.now))) }
+        ensures paths { IsTrue result ↔ Meets (planned self.now) (named self.now) }
+        ensures published { IsTrue result ↔ InTime (planned self.now) (selection_of (planned self.now) (named self.now)) }
     {
         self.longest_delay() <= self.design.terms().cycle
     }
@@ -40,9 +40,5 @@ impl Assignment<'_, '_> {
 fn greatest(times: &[u32]) -> u32
     ensures { result ≡ fold max 0 times.now }
 {
-    let mut greatest: u32 = 0;
-    for t in times {
-        greatest = greatest.max(*t);
-    }
-    greatest
+    times.iter().copied().fold(0, u32::max)
 }

@@ -32,13 +32,9 @@ impl<'d, 's> Assignment<'d, 's> {
 fn all_offered(menus: &[Menu], supplies: &[u8]) -> bool
     ensures { result ≡ all_offered menus.now supplies.now }
 {
-    if menus.len() != supplies.len() {
-        return false;
-    }
-    for (m, menu) in menus.iter().enumerate() {
-        if !stands(menu.map, u32::from(supplies[m])) {
-            return false;
-        }
-    }
-    true
+    menus.len() == supplies.len()
+        && menus
+            .iter()
+            .zip(supplies)
+            .all(|(menu, supply)| stands(menu.map, u32::from(*supply)))
 }

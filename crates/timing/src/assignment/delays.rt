@@ -9,7 +9,7 @@ ghost use Rattle.timing.specs.View.{planned, named};
 use super::Assignment;
 use crate::delays::DelayModel;
 use crate::shifter::climbs;
-use netlist::parts::Choice;
+use netlist::parts::{Choice, Shifter};
 
 // Every signal is launched at time 0.
 const LAUNCH: u32 = 0;
@@ -19,33 +19,27 @@ impl Assignment<'_, '_> {
     pub fn supply(&self, module: u32) -> u32
         ensures { result ≡ supply_of (named self.now) «module» }
     {
-        let m = module as usize;
-        if m >= self.supplies.len() {
-            return 0;
-        }
-        u32::from(self.supplies[m])
+        let named = self.supplies.get(module as usize);
+        named.map_or(0, |supply| u32::from(*supply))
     }
 
     // Delay and power of a module at its supply, none where there is no such module.
     pub fn choice(&self, module: u32) -> Choice
         ensures { result ≡ choice_of (planned self.now) «module» (supply_of (named self.now) «module») }
     {
-        let m = module as usize;
-        if m >= self.supplies.len() {
+        let Some(menu) = self.design.menus().get(module as usize) else {
             return Choice::NONE;
-        }
-        self.design.menus()[m].choices[usize::from(self.supplies[m])]
+        };
+        menu.values[self.supply(module) as usize]
     }
 
     // Whether a net needs a shifter, false where there is no such net.
     pub fn needs_shifter(&self, net: u32) -> bool
         ensures { result ≡ needs_shifter (planned self.now) (named self.now) net }
     {
-        let i = net as usize;
-        if i >= self.design.nets().len() {
+        let Some(ends) = self.design.nets().get(net as usize) else {
             return false;
-        }
-        let ends = self.design.nets()[i];
+        };
         let from = self.supply(ends.driver);
         let to = self.supply(ends.receiver);
         climbs(self.design, from, to)
@@ -56,11 +50,18 @@ impl Assignment<'_, '_> {
         ensures value { result ≡ (net_of (planned self.now) net).wire }
         ensures bound { result ≤ 10000 }
     {
-        let i = net as usize;
-        if i >= self.design.nets().len() {
-            return 0;
-        }
-        self.design.nets()[i].wire
+        self.design
+            .nets()
+            .get(net as usize)
+            .map_or(0, |found| found.wire)
+    }
+
+    // The shifter on a net, if it needs one.
+    pub(super) fn shifter(&self, net: u32) -> Option<Shifter>
+        ensures { result ≡ (if needs_shifter (planned self.now) (named self.now) net then Some (planned self.now).terms.shifter else None) }
+    {
+        let shifter = self.design.terms().shifter;
+        self.needs_shifter(net).then_some(shifter)
     }
 
     // The shifter delay where a net needs a shifter, else 0.
@@ -68,11 +69,7 @@ impl Assignment<'_, '_> {
         ensures value { result ≡ (if needs_shifter (planned self.now) (named self.now) net then (planned self.now).terms.shifter.delay else 0) }
         ensures bound { result ≤ 10000 }
     {
-        if self.needs_shifter(net) {
-            self.design.terms().shifter.delay
-        } else {
-            0
-        }
+        self.shifter(net).map_or(0, |shifter| shifter.delay)
     }
 
     pub fn net_delay(&self, net: u32) -> u32

@@ -11,36 +11,25 @@ use super::Assignment;
 impl Assignment<'_, '_> {
     // The shifter power where a net needs a shifter, else 0.
     fn net_power(&self, net: u32) -> u32
-        ensures value { result ≡ power_along (planned self.now) (named self.now) net }
-        ensures bound { result ≤ 10000 }
+        ensures { result ≡ power_along (planned self.now) (named self.now) net }
     {
-        if self.needs_shifter(net) {
-            self.design.terms().shifter.power
-        } else {
-            0
-        }
+        self.shifter(net).map_or(0, |shifter| shifter.power)
     }
 
     fn modules_power(&self) -> u32
         ensures value { result ≡ sum_below (modules (planned self.now)) (module_power (planned self.now) (named self.now)) }
         ensures bound { result ≤ 64000000 }
     {
-        let mut sum: u32 = 0;
-        for m in 0..self.design.menus().len() {
-            sum += self.choice(m as u32).power;
-        }
-        sum
+        let modules = self.design.menus().len() as u32;
+        (0..modules).map(|m| self.choice(m).power).sum()
     }
 
     fn shifters_power(&self) -> u32
         ensures value { result ≡ sum_below (length (planned self.now).nets) (power_along (planned self.now) (named self.now)) }
         ensures bound { result ≤ 2560000 }
     {
-        let mut sum: u32 = 0;
-        for i in 0..self.design.nets().len() {
-            sum += self.net_power(i as u32);
-        }
-        sum
+        let nets = self.design.nets().len() as u32;
+        (0..nets).map(|i| self.net_power(i)).sum()
     }
 
     // The power of all modules, and of a shifter for each net that needs one: the published objective.

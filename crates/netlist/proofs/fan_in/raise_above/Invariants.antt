@@ -1,5 +1,6 @@
-use Rattle.std.proofs.Common.{◌≡◌, ℕ, ◌+◌, cond, ◌&&◌, ltb, get_or}
+use Rattle.std.proofs.Common.{◌≡◌, ℕ, ◌+◌, if◌then◌else◌, nat_lt, slice_index}
 use Rattle.netlist.proofs.fan_in.raise_above.Given as goal
 
-abbrev pub invariant-loop-m : goal.invariant-loop-m
-invariant-loop-m l = (k : ℕ) → get_or l.first k 0 ≡ get_or l.initial.first k 0 + cond (ltb l.receiver k && ltb k l.m) 1 0
+abbrev pub invariant-loop-count : goal.invariant-loop-count
+invariant-loop-count l =
+    (k : ℕ) → slice_index l.count-items k ≡ slice_index l.initial.count-items k + (if nat_lt k l.count-index then 1 else 0)

@@ -1,27 +1,18 @@
-use Rattle.std.proofs.Common.{length, sym, ap, ◌∙◌, arith}
+use Rattle.std.proofs.Common.{◌≡◌, ℕ, List, length, sym, ap, ◌∙◌, subst}
+use Rattle.netlist.specs.Netlist.{netlist}
+use Rattle.netlist.specs.Slots.{used, Supplies}
+use Rattle.netlist.specs.Standing.{left}
 use Rattle.netlist.specs.View.{drawn}
-use Rattle.netlist.specs.Refusals.{refused}
-use Rattle.record.proofs.Refilled.{supplies_begun, supplies_put, supplies_passed, supplies_done}
+use Rattle.record.proofs.Refilled.{Accepts, with_all, supplies_filled}
 use Rattle.record.proofs.fill.fill_supplies.Goals as goal
-use Rattle.record.proofs.fill.fill_supplies.Goals.{then-stands, else-stands}
 
-pub loop-i-init : goal.loop-i-init
-loop-i-init c = supplies_begun c.args.supplies c.requires.lawful (drawn c.args.draft.now) c.requires.none
-
-pub loop-i-preserved : goal.loop-i-preserved
-loop-i-preserved c =
+pub loop-number-init : goal.loop-number-init
+loop-number-init c =
+    let n = drawn c.args.draft.now in
     let s = c.args.supplies in
-    let n = drawn c.args.draft.now in
-    let d = drawn c.loop-i.draft in
-    elim c.if-stands.branch [
-      | then-stands w ↦
-          rw w.draft-is (supplies_put s c.requires.lawful n.terms n.menus n.nets c.loop-i.i (omega arith) (sym c.stands.ensures ∙ w.if-stands.true) (ap length c.requires.early)
-          d (drawn w.supply.new.self) (refused w.supply.result) c.loop-i.invariant w.supply.ensures.answer w.supply.ensures.after)
-      | else-stands w ↦
-          rw w.draft-is (supplies_passed s c.requires.lawful n.terms n.menus n.nets c.loop-i.i (omega arith) (sym c.stands.ensures ∙ w.if-stands.false) d c.loop-i.invariant)
-    ]
-
-pub returns : goal.returns
-returns c =
-    let n = drawn c.args.draft.now in
-    supplies_done c.args.supplies c.requires.lawful n.terms n.menus n.nets c.loop-i.i (omega arith) (drawn c.loop-i.draft) c.loop-i.invariant
+    let whole = netlist n.terms s n.menus n.nets in
+    let e = ap left c.into_iter-number-iterator.ensures.into_iter_gives ∙ c.standing-number-items.ensures in
+    let F : Supplies → List (ℕ × ℕ) → Type 0 = λ x ps. Accepts (netlist n.terms x n.menus n.nets) ps × (with_all (netlist n.terms x n.menus n.nets) ps ≡ whole) in
+    let r = supplies_filled s c.requires.lawful n.terms n.menus n.nets (ap length c.requires.early) in
+    let p : F n.supplies (left c.into_iter-number-iterator.result) = subst (F n.supplies) (sym e) (subst (λ x. F x (used s.map 0 s.values)) (sym c.requires.none) r) in
+    record { accepted = p.0; whole = p.1 }

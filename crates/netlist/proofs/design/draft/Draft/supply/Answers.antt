@@ -12,11 +12,9 @@ invariant_of-self c =
     let n = drawn s in
     let i = c.args.number in
     let v = c.args.voltage in
-    let F : ℕ → Type 0 = λ p. lawful (netlist n.terms (record { map = n.supplies.map + p; voltages = set n.supplies.voltages i v }) n.menus n.nets) ≡ true in
+    let F : ℕ → Type 0 = λ p. lawful (netlist n.terms (record { map = n.supplies.map + p; values = set n.supplies.values i v }) n.menus n.nets) ≡ true in
     let k = lawful_supply n i v s.design.ok (omega arith) (search rules) (search rules) (search rules) (omega arith) in
     record {
       room = search rules;
       ok = subst⁻¹ F (one_shl i 8 (omega arith)) k;
-      index_room = search rules;
-      index = s.design.index;
     }
