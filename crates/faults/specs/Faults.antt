@@ -1,5 +1,7 @@
 -- What a fault says: its refusal, its block and its first byte. Assumes nothing.
-use Rattle.std.specs.Prelude.{ℕ}
+use Rattle.std.specs.Prelude.{ℕ, List, ◌++◌, codes}
+use Rattle.std.specs.Fmt.{decimal}
+use Rattle.netlist.specs.Refusals.{number, reason}
 use Rattle.netlist.specs.declared.refusal.Refusal.{Refusal}
 use Rattle.netlist.specs.declared.refusal.Refusal.TheVariants as refusal
 use Rattle.faults.specs.declared.BlockFault.{BlockFault}
@@ -26,3 +28,9 @@ block_of (BytesFollow b at) = b
 abbrev pub place_of : RecordFault → ℕ
 place_of (Block b f) = block_place f
 place_of (BytesFollow b at) = at
+
+-- a fault's text: the number, the place and the reason
+abbrev pub text : RecordFault → List ℕ
+text f =
+    decimal (number (refusal_of f)) ++ codes " in block " ++ decimal (block_of f) ++ codes " at byte " ++ decimal (place_of f)
+    ++ codes ": " ++ reason (refusal_of f)

@@ -1,8 +1,8 @@
 // Where a record is refused, and why: a field's fault is carried whole inside its block's, and that inside the record's.
 #![tactic(auto)]
 
-ghost use Rattle.std.specs.Prelude.{◌≡◌};
-ghost use Rattle.faults.specs.Faults.{block_refusal, block_place, refusal_of, block_of, place_of};
+ghost use Rattle.std.specs.Prelude.{◌≡◌, Some};
+ghost use Rattle.faults.specs.Faults.{block_refusal, block_place, refusal_of, block_of, place_of, text};
 ghost use Rattle.faults.specs.declared.BlockFault.TheVariants.{Field};
 ghost use Rattle.faults.specs.declared.RecordFault.TheVariants.{Block};
 
@@ -64,8 +64,7 @@ impl RecordFault {
         ensures { result ≡ block_of self }
     {
         match self {
-            RecordFault::Block { block, .. } => block,
-            RecordFault::BytesFollow { block, .. } => block,
+            RecordFault::Block { block, .. } | RecordFault::BytesFollow { block, .. } => block,
         }
     }
 
@@ -101,6 +100,8 @@ impl From<(usize, BlockFault)> for RecordFault {
 
 // The number, the place and the reason.
 impl fmt::Display for RecordFault {
+    ghost output = { λ fault. Some (text fault) };
+
     fn fmt<W: fmt::Write>(&self, f: &mut fmt::Formatter<W>) -> fmt::Result {
         let refusal = self.refusal();
         let number = refusal.number();

@@ -1,26 +1,24 @@
 -- Tests over each value of a list. Assumes nothing.
-use Rattle.std.proofs.Common.{◌≡◌, ℕ, zero, suc, ◌<◌, Bool, true, List, [], ◌∷◌, ◌++◌, length, get_or, Some, Option, refl, arith}
+use Rattle.std.proofs.Common.{◌≡◌, ℕ, zero, suc, ◌<◌, Bool, true, List, [], ◌∷◌, ◌++◌, length, get_or, Some, Option, refl, ◌∙◌, arith}
 use Rattle.std.specs.List.{list_all}
 use Rattle.std.proofs.lemmas.Bool.{and_parts, and_from}
+use Rattle.std.proofs.lemmas.List.Folds.{list_all-append}
 use Rattle.netlist.specs.Netlist.{in_order}
 
 module _ {T : Type 0} where
-  pub every_push : (test : T → Bool) (xs : List T) (y : T) → list_all test xs ≡ true → test y ≡ true → list_all test (xs ++ y ∷ []) ≡ true
-  every_push test [] y h e = rw e
-  every_push test (x ∷ xs) y h e =
-      let p = and_parts (test x) (list_all test xs) h in
-      and_from (test x) (list_all test (xs ++ y ∷ [])) p.0 (every_push test xs y p.1 e)
+  pub list_all_push : (test : T → Bool) (xs : List T) (y : T) → list_all test xs ≡ true → test y ≡ true → list_all test (xs ++ y ∷ []) ≡ true
+  list_all_push test xs y h e = list_all-append test xs (y ∷ []) ∙ rw (h, e) refl
 
-  pub every_weaken : (f g : T → Bool) (xs : List T) → ((x : T) → f x ≡ true → g x ≡ true) → list_all f xs ≡ true → list_all g xs ≡ true
-  every_weaken f g [] k h = refl
-  every_weaken f g (x ∷ xs) k h =
+  pub list_all_weaken : (f g : T → Bool) (xs : List T) → ((x : T) → f x ≡ true → g x ≡ true) → list_all f xs ≡ true → list_all g xs ≡ true
+  list_all_weaken f g [] k h = refl
+  list_all_weaken f g (x ∷ xs) k h =
       let p = and_parts (f x) (list_all f xs) h in
-      and_from (g x) (list_all g xs) (k x p.0) (every_weaken f g xs k p.1)
+      and_from (g x) (list_all g xs) (k x p.0) (list_all_weaken f g xs k p.1)
 
-  pub every_at : (test : T → Bool) (xs : List T) → list_all test xs ≡ true → (i : ℕ) (d : T) → i < length xs → test (get_or xs i d) ≡ true
-  every_at test [] h i d l = absurd (omega arith)
-  every_at test (x ∷ xs) h zero d l = (and_parts (test x) (list_all test xs) h).0
-  every_at test (x ∷ xs) h (suc i) d l = every_at test xs (and_parts (test x) (list_all test xs) h).1 i d (omega arith)
+  pub list_all_get : (test : T → Bool) (xs : List T) → list_all test xs ≡ true → (i : ℕ) (d : T) → i < length xs → test (get_or xs i d) ≡ true
+  list_all_get test [] h i d l = absurd (omega arith)
+  list_all_get test (x ∷ xs) h zero d l = (and_parts (test x) (list_all test xs) h).0
+  list_all_get test (x ∷ xs) h (suc i) d l = list_all_get test xs (and_parts (test x) (list_all test xs) h).1 i d (omega arith)
 
   -- a value that follows each of the values in order can come after them
   pub in_order_push : (follows : Option T → T → Bool) (last : Option T) (xs : List T) (y : T) → in_order follows last xs ≡ true → list_all (λ x. follows (Some x) y) xs ≡ true → follows last y ≡ true → in_order follows last (xs ++ y ∷ []) ≡ true
@@ -36,4 +34,4 @@ module _ {T : Type 0} where
   after_first follows t x (y ∷ ys) h =
       let p = and_parts (follows (Some x) y) (in_order follows (Some y) ys) h in
       and_from (follows (Some x) y) (list_all (follows (Some x)) ys) p.0
-      (every_weaken (follows (Some y)) (follows (Some x)) ys (λ z e. t x y z p.0 e) (after_first follows t y ys p.1))
+      (list_all_weaken (follows (Some y)) (follows (Some x)) ys (λ z e. t x y z p.0 e) (after_first follows t y ys p.1))

@@ -4,11 +4,11 @@ use Rattle.std.specs.List.{list_all}
 use Rattle.std.proofs.lemmas.Nat.{pow-add, pow_below}
 use Rattle.std.proofs.lemmas.List.{length-set, nil_from_length}
 use Rattle.std.proofs.lemmas.Bool.Decides.{nat_tests}
-use Rattle.netlist.specs.Calls.{terms_of, with_terms, with_supply, menu_of, with_module, net_of, with_net}
+use Rattle.netlist.specs.Calls.{terms_of, with_terms, with_supply, menu_of, with_module}
 use Rattle.netlist.specs.Netlist.{Netlist, lawful, in_order, modules, terms_lawful, supplies_lawful, menu_lawful, net_lawful, voltage_in_limits, voltage_follows, is_zero, choice_in_limits, choice_follows, no_choice, is_no_choice, names_supplies}
 use Rattle.netlist.specs.Slots.{standing, absent, Menu, Supplies}
 use Rattle.netlist.specs.declared.parts.Choice.{Choice}
-use Rattle.netlist.proofs.Bools.{every_push, every_weaken, in_order_push}
+use Rattle.netlist.proofs.Bools.{list_all_push, list_all_weaken, in_order_push}
 use Rattle.netlist.proofs.Maps.{below_from_shr}
 use Rattle.netlist.proofs.Places.{standing_add, absent_add, length_cleared, standing_cleared, absent_cleared}
 
@@ -84,7 +84,7 @@ lawful_supply n number voltage h l v b a m =
       supplies = supplies_lawful_from t (record {
         byte = omega arith;
         eight = simp length-set q.eight;
-        limits = rw e (every_push voltage_in_limits (standing s.map 0 s.values) voltage q.limits v);
+        limits = rw e (list_all_push voltage_in_limits (standing s.map 0 s.values) voltage q.limits v);
         order = rw e (in_order_push voltage_follows None (standing s.map 0 s.values) voltage q.order a refl);
         zeros = absent_add is_zero s.map number s.values voltage below q.zeros;
       });
@@ -131,21 +131,7 @@ lawful_module n map choices h e a b s l =
       terms = k.terms;
       supplies = k.supplies;
       few_modules = omega arith;
-      menus = every_push (menu_lawful n.supplies.map) n.menus m k.menus g;
+      menus = list_all_push (menu_lawful n.supplies.map) n.menus m k.menus g;
       few_nets = k.few_nets;
-      nets = every_weaken (net_lawful (modules n)) (net_lawful (length (n.menus ++ m ∷ []))) n.nets (λ t j. grind (arith, nat_tests)) k.nets;
-    })
-
-pub lawful_net : (n : Netlist) (driver receiver wire : ℕ) → lawful n ≡ true → wire ≤ 10000 → driver < receiver → receiver < modules n → length n.nets < 256 → lawful (with_net n driver receiver wire) ≡ true
-lawful_net n driver receiver wire h w d r l =
-    let k = kept n h in
-    let t = net_of driver receiver wire in
-    let e : net_lawful (modules n) t ≡ true = grind (arith, nat_tests) in
-    lawful_from (with_net n driver receiver wire) (record {
-      terms = k.terms;
-      supplies = k.supplies;
-      few_modules = k.few_modules;
-      menus = k.menus;
-      few_nets = simp length-append (omega arith);
-      nets = every_push (net_lawful (modules n)) n.nets t k.nets e;
+      nets = list_all_weaken (net_lawful (modules n)) (net_lawful (length (n.menus ++ m ∷ []))) n.nets (λ t j. grind (arith, nat_tests)) k.nets;
     })

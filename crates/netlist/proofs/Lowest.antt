@@ -56,12 +56,16 @@ cleared_to n w j h =
     let e = same_true _ _ (and_parts (same (bit (without n) j) (ltb (low n) j && bit n j)) _ (w.each j (let x = w.in_byte in omega arith))).0 in
     e ∙ ap (λ b. b && bit n j) (le-ltb (low n) j h)
 
-pub same_above : (n : ℕ) → n < 256 → Lowest n → (j : ℕ) → low n < j → bit (without n) j ≡ bit n j
-same_above n b w j h =
+pub same_above : (n : ℕ) → Lowest n → (j : ℕ) → low n < j → j < 8 → bit (without n) j ≡ bit n j
+same_above n w j h l =
+    let e = same_true _ _ (and_parts (same (bit (without n) j) (ltb (low n) j && bit n j)) _ (w.each j l)).0 in
+    e ∙ ap (λ b. b && bit n j) (lt-ltb (low n) j h)
+
+-- also past the byte, where neither has a bit
+pub same_past : (n : ℕ) → n < 256 → Lowest n → (j : ℕ) → low n < j → bit (without n) j ≡ bit n j
+same_past n b w j h =
     elim (cases_lt j 8) [
-      | inl l ↦
-          let e = same_true _ _ (and_parts (same (bit (without n) j) (ltb (low n) j && bit n j)) _ (w.each j l)).0 in
-          e ∙ ap (λ b. b && bit n j) (lt-ltb (low n) j h)
+      | inl l ↦ same_above n w j h l
       | inr l ↦ bit_past_byte (without n) j w.byte l ∙ sym (bit_past_byte n j b l)
     ]
 

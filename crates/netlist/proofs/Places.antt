@@ -33,20 +33,20 @@ module _ {T : Type 0} where
     rest true x ys h = (and_parts (test x) (list_all test ys) h).1
     rest false x ys h = h
 
-    pub every_picked : (i : ℕ) (xs : List T) → list_all test (picked p i xs) ≡ true → (k : ℕ) (d : T) → k < length xs → p (i + k) ≡ true → test (get_or xs k d) ≡ true
-    every_picked i [] h k d l b = absurd (omega arith)
-    every_picked i (x ∷ xs) h zero d l b =
+    pub list_all_picked : (i : ℕ) (xs : List T) → list_all test (picked p i xs) ≡ true → (k : ℕ) (d : T) → k < length xs → p (i + k) ≡ true → test (get_or xs k d) ≡ true
+    list_all_picked i [] h k d l b = absurd (omega arith)
+    list_all_picked i (x ∷ xs) h zero d l b =
         let c : p i ≡ true = rw add-zero at b in
         (and_parts (test x) (list_all test (picked p (i + 1) xs)) (rw c at h)).0
-    every_picked i (x ∷ xs) h (suc k) d l b =
+    list_all_picked i (x ∷ xs) h (suc k) d l b =
         let e : i + suc k ≡ (i + 1) + k = omega arith in
-        every_picked (i + 1) xs (rest (p i) x (picked p (i + 1) xs) h) k d (omega arith) (rw e at b)
+        list_all_picked (i + 1) xs (rest (p i) x (picked p (i + 1) xs) h) k d (omega arith) (rw e at b)
 
-    pub every_picked_from : (i : ℕ) (xs : List T) → ((k : ℕ) (d : T) → k < length xs → p (i + k) ≡ true → test (get_or xs k d) ≡ true) → list_all test (picked p i xs) ≡ true
-    every_picked_from i [] h = refl
-    every_picked_from i (x ∷ xs) h =
+    pub list_all_picked_from : (i : ℕ) (xs : List T) → ((k : ℕ) (d : T) → k < length xs → p (i + k) ≡ true → test (get_or xs k d) ≡ true) → list_all test (picked p i xs) ≡ true
+    list_all_picked_from i [] h = refl
+    list_all_picked_from i (x ∷ xs) h =
         let ys = picked p (i + 1) xs in
-        let r : list_all test ys ≡ true = every_picked_from (i + 1) xs
+        let r : list_all test ys ≡ true = list_all_picked_from (i + 1) xs
         (λ k d l b. let e : i + suc k ≡ (i + 1) + k = omega arith in h (suc k) d (omega arith) (rw e b)) in
         ⊎_elim (λ (b : p i ≡ true). rw b (and_from (test x) (list_all test ys) (h zero x (omega arith) (rw add-zero b)) r))
         (λ (b : p i ≡ false). rw b r)
@@ -66,7 +66,7 @@ module _ {T : Type 0} where
         let ys = picked p (i + 1) xs in
         let e = (and_parts (follows last x) (in_order follows (Some x) ys) (rw c at h)).1 in
         let s : i + suc k ≡ (i + 1) + k = omega arith in
-        every_picked (follows (Some x)) p (i + 1) xs (after_first follows chain x ys e) k d (omega arith) (rw s at b)
+        list_all_picked (follows (Some x)) p (i + 1) xs (after_first follows chain x ys e) k d (omega arith) (rw s at b)
     in_order_picked i (x ∷ xs) last h (suc j) (suc k) d jk l a b =
         let r = in_order_rest (p i) last x (picked p (i + 1) xs) h in
         let s : i + suc k ≡ (i + 1) + k = omega arith in
@@ -76,18 +76,18 @@ module _ {T : Type 0} where
 -- the same by the bits of a map, from place 0
 module _ {T : Type 0} (map : ℕ) (xs : List T) where
   pub standing_at : (test : T → Bool) → list_all test (standing map 0 xs) ≡ true → (k : ℕ) (d : T) → k < length xs → bit map k ≡ true → test (get_or xs k d) ≡ true
-  standing_at test h k d l b = every_picked test (bit map) 0 xs (rw (standing_picked map 0 xs) at h) k d l (rw zero-add b)
+  standing_at test h k d l b = list_all_picked test (bit map) 0 xs (rw (standing_picked map 0 xs) at h) k d l (rw zero-add b)
 
   pub standing_from : (test : T → Bool) → ((k : ℕ) (d : T) → k < length xs → bit map k ≡ true → test (get_or xs k d) ≡ true) → list_all test (standing map 0 xs) ≡ true
-  standing_from test h = rw (standing_picked map 0 xs) (every_picked_from test (bit map) 0 xs (λ k d l b. h k d l (rw zero-add at b)))
+  standing_from test h = rw (standing_picked map 0 xs) (list_all_picked_from test (bit map) 0 xs (λ k d l b. h k d l (rw zero-add at b)))
 
   pub absent_at : (test : T → Bool) → list_all test (absent map 0 xs) ≡ true → (k : ℕ) (d : T) → k < length xs → bit map k ≡ false → test (get_or xs k d) ≡ true
   absent_at test h k d l b =
-      every_picked test (λ i. not (bit map i)) 0 xs (rw (absent_picked map 0 xs) at h) k d l (rw zero-add (not_from_false (bit map k) b))
+      list_all_picked test (λ i. not (bit map i)) 0 xs (rw (absent_picked map 0 xs) at h) k d l (rw zero-add (not_from_false (bit map k) b))
 
   pub absent_from : (test : T → Bool) → ((k : ℕ) (d : T) → k < length xs → bit map k ≡ false → test (get_or xs k d) ≡ true) → list_all test (absent map 0 xs) ≡ true
   absent_from test h =
-      rw (absent_picked map 0 xs) (every_picked_from test (λ i. not (bit map i)) 0 xs (λ k d l b. h k d l (not-true (bit map k) (rw zero-add at b))))
+      rw (absent_picked map 0 xs) (list_all_picked_from test (λ i. not (bit map i)) 0 xs (λ k d l b. h k d l (not-true (bit map k) (rw zero-add at b))))
 
   pub order_at : (follows : Option T → T → Bool) → ((x y z : T) → follows (Some x) y ≡ true → follows (Some y) z ≡ true → follows (Some x) z ≡ true) → in_order follows None (standing map 0 xs) ≡ true → (j k : ℕ) (d : T) → j < k → k < length xs → bit map j ≡ true → bit map k ≡ true → follows (Some (get_or xs j d)) (get_or xs k d) ≡ true
   order_at follows chain h j k d jk l a b =

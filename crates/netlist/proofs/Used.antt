@@ -8,7 +8,7 @@ use Rattle.std.proofs.lemmas.List.Folds.{list_all-map}
 use Rattle.std.proofs.Math.Seq.{set-append_seam}
 use Rattle.std.specs.List.{list_all}
 use Rattle.netlist.specs.Slots.{bit, used, standing, cleared}
-use Rattle.netlist.proofs.Lowest.{Lowest, none_below, cleared_to, same_above}
+use Rattle.netlist.proofs.Lowest.{Lowest, none_below, cleared_to, same_past}
 use Rattle.netlist.proofs.Maps.{bit_past}
 
 module _ {T : Type 0} where
@@ -31,19 +31,12 @@ module _ {T : Type 0} where
       let p : i ≡ count_trailing_zeros 8 n = omega arith in
       let b : bit n i ≡ true = rw p w.stands in
       let c = cleared_to n w i (omega arith) in
-      let s = used_same n (bit_and n (n - 1)) (i + 1) xs (λ j a m. sym (same_above n z w j (omega arith))) in
+      let s = used_same n (bit_and n (n - 1)) (i + 1) xs (λ j a m. sym (same_past n z w j (omega arith))) in
       rw (b, c, s) (ap (λ j. (j, x) ∷ used (bit_and n (n - 1)) (i + 1) xs) p)
   used_lowest n i (suc k) (x ∷ xs) d z w e l =
       let b = none_below n w i (omega arith) in
       let c = cleared_to n w i (omega arith) in
       rw (b, c) (used_lowest n (i + 1) k xs d z w (omega arith) (omega arith))
-
-  -- a table that ends before the lowest bit has none
-  pub used_short : (n i : ℕ) (xs : List T) → Lowest n → i + length xs ≤ count_trailing_zeros 8 n → used n i xs ≡ []
-  used_short n i [] w l = refl
-  used_short n i (x ∷ xs) w l =
-      let b = none_below n w i (omega arith) in
-      rw b (used_short n (i + 1) xs w (omega arith))
 
   -- the values alone
   pub standing_used : (m i : ℕ) (xs : List T) → map (λ p. p.1) (used m i xs) ≡ standing m i xs

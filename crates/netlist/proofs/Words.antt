@@ -9,7 +9,7 @@ use Rattle.netlist.specs.declared.parts.Choice.{Choice}
 use Rattle.netlist.specs.Netlist.{Netlist, lawful, modules, menu_lawful, net_lawful, voltage_in_limits, voltage_follows, choice_in_limits, choice_follows, no_choice}
 use Rattle.netlist.specs.Rules.{Rules, Supply, Offered, voltage, menu, choice, net, no_menu, no_net}
 use Rattle.netlist.specs.Slots.{bit}
-use Rattle.netlist.proofs.Bools.{every_at}
+use Rattle.netlist.proofs.Bools.{list_all_get}
 use Rattle.netlist.proofs.Kept.{Kept, KeptSupplies, KeptMenu, kept, kept_supplies, kept_menu}
 use Rattle.netlist.proofs.Maps.{bit_past, bit_in_byte, some_bit, bit_within}
 use Rattle.netlist.proofs.Places.{standing_at, order_at}
@@ -39,7 +39,7 @@ module _ (n : Netlist) (h : lawful n ≡ true) where
       ]
 
   pub kept_at : (m : ℕ) → m < modules n → KeptMenu n.supplies.map (menu n m)
-  kept_at m l = kept_menu n.supplies.map (menu n m) (every_at (menu_lawful n.supplies.map) n.menus all.menus m no_menu l)
+  kept_at m l = kept_menu n.supplies.map (menu n m) (list_all_get (menu_lawful n.supplies.map) n.menus all.menus m no_menu l)
 
   within_design : (m : ℕ) → m < modules n → bit_and (menu n m).map n.supplies.map ≡ (menu n m).map
   within_design m l = let k = (kept_at m l).named in grind (arith, nat_tests)
@@ -81,7 +81,7 @@ module _ (n : Netlist) (h : lawful n ≡ true) where
       order_at n.supplies.map n.supplies.values voltage_follows voltages_chain supplies.order i j 0 l (voltage_place j b) a b
 
   net_at : (i : ℕ) → i < length n.nets → net_lawful (modules n) (net n i) ≡ true
-  net_at i l = every_at (net_lawful (modules n)) n.nets all.nets i no_net l
+  net_at i l = list_all_get (net_lawful (modules n)) n.nets all.nets i no_net l
 
   pub keeps_rules : Rules n
   keeps_rules =

@@ -1,7 +1,15 @@
 -- Tables of eight places under a map byte: bit i says whether place i is used. Assumes nothing.
-use Rattle.std.specs.Prelude.{ℕ, ◌+◌, ◌/◌, ◌%◌, ◌^◌, Bool, if◌then◌else◌, List, [], ◌∷◌, ◌==◌}
+use Rattle.std.specs.Prelude.{ℕ, ◌+◌, ◌*◌, ◌<◌, ◌/◌, ◌%◌, ◌^◌, Bool, if◌then◌else◌, List, [], ◌∷◌, ◌==◌}
+use Rattle.std.proofs.Common.{lit<}
 use Rattle.netlist.specs.declared.parts.Choice.{Choice}
 use Rattle.netlist.specs.declared.slots.Slots.{Slots}
+
+-- eight voltages, and eight choices, are few bytes
+pub small_voltages : 8 * 4 < 2 ^ 63
+small_voltages = lit< tt
+
+pub small_choices : 8 * 8 < 2 ^ 63
+small_choices = lit< tt
 
 -- the supplies of a design, by their voltages, and a menu, by its choices
 abbrev pub Supplies : Type 0

@@ -4,17 +4,19 @@ ghost use Rattle.std.specs.List.{between, insert};
 
 use std::alloc::{AllocError, Global};
 
-// The net numbers by receiver, and how many come before those into each module; the last entry counts all.
+// The net numbers by receiver, and how many come before those into each module; the last entry counts all. One list for
+// all modules, since nothing may allocate when a net is added.
 #[derive(Drop)]
 pub struct FanIn {
     pub(crate) nets: Vec<u32>,
     pub(crate) first: [u32; 65],
+    ghost room: { 256 ≤ vec_capacity nets },
 }
 
 impl FanIn {
     // No nets, with memory for 256.
     pub(crate) fn new(heap: Global) -> Result<FanIn, AllocError>
-        ensures { IfOk result (λ f. (f.nets.items ≡ []) × (256 ≤ vec_capacity f.nets) × (f.first ≡ replicate 65 0)) }
+        ensures { IfOk result (λ f. (f.nets.items ≡ []) × (f.first ≡ replicate 65 0)) }
     {
         Ok(FanIn {
             nets: Vec::with_capacity(heap, 256)?,
@@ -24,7 +26,6 @@ impl FanIn {
 
     pub(crate) fn clear(&mut self)
         ensures nets { self.new.nets.items ≡ [] }
-        ensures capacity { vec_capacity self.new.nets ≡ vec_capacity self.old.nets }
         ensures first { self.new.first ≡ replicate 65 0 }
     {
         self.nets.clear();
@@ -35,10 +36,8 @@ impl FanIn {
     pub(crate) fn add(&mut self, net: u32, receiver: u32)
         requires below { receiver < 64 }
         requires few { vec_len self.old.nets < 256 }
-        requires room { 256 ≤ vec_capacity self.old.nets }
         requires within { (m : ℕ) → m < 65 → slice_index self.old.first m ≤ vec_len self.old.nets }
         ensures nets { self.new.nets.items ≡ insert self.old.nets.items (slice_index self.old.first (receiver + 1)) net }
-        ensures capacity { vec_capacity self.new.nets ≡ vec_capacity self.old.nets }
         ensures size { length self.new.first ≡ 65 }
         ensures first { (m : ℕ) → m < 65 → slice_index self.new.first m ≡ slice_index self.old.first m + (if nat_lt receiver m then 1 else 0) }
     {
@@ -65,7 +64,8 @@ impl FanIn {
 fn raise_above(first: &mut [u32; 65], receiver: u32)
     requires below { receiver < 64 }
     requires small { (m : ℕ) → m < 65 → slice_index first.old m < 256 }
-    ensures { (m : ℕ) → m < 65 → slice_index first.new m ≡ slice_index first.old m + (if nat_lt receiver m then 1 else 0) }
+    ensures size { length first.new ≡ 65 }
+    ensures raised { (m : ℕ) → m < 65 → slice_index first.new m ≡ slice_index first.old m + (if nat_lt receiver m then 1 else 0) }
 {
     for count in &mut first[receiver as usize + 1..] {
         *count += 1;

@@ -1,8 +1,7 @@
 // The plain parts of a design. Time is in picoseconds, voltage in millivolts, power in microwatts.
 ghost use Rattle.std.specs.Prelude.{◌≡◌, nat_lt};
 ghost use Rattle.std.specs.List.{list_all};
-ghost use Rattle.std.proofs.Common.{rules};
-ghost use Rattle.netlist.specs.Slots.{bit, standing};
+ghost use Rattle.netlist.specs.Slots.{bit, standing, small_voltages, small_choices};
 ghost use Rattle.netlist.specs.Netlist.{terms_lawful, choice_in_limits, choice_follows, voltage_in_limits, voltage_follows};
 
 use crate::slots::{Slot, Slots};
@@ -69,7 +68,7 @@ impl Slot for u32 {
 
     ghost comes_after = { voltage_follows };
 
-    ghost small = { Prim.search rules };
+    ghost small = { small_voltages };
 
     fn in_limits(&self) -> bool {
         voltage_in_limits(*self)
@@ -87,7 +86,7 @@ impl Slot for Choice {
 
     ghost comes_after = { choice_follows };
 
-    ghost small = { Prim.search rules };
+    ghost small = { small_choices };
 
     fn in_limits(&self) -> bool {
         Choice::in_limits(self)

@@ -1,6 +1,6 @@
 // Why a call is turned away.
-ghost use Rattle.std.specs.Prelude.{◌≡◌};
-ghost use Rattle.netlist.specs.Refusals.{number};
+ghost use Rattle.std.specs.Prelude.{◌≡◌, Some};
+ghost use Rattle.netlist.specs.Refusals.{number, reason};
 
 use std::error::Error;
 use std::fmt;
@@ -30,6 +30,8 @@ impl Refusal {
 }
 
 impl fmt::Display for Refusal {
+    ghost output = { λ refusal. Some (reason refusal) };
+
     fn fmt<W: fmt::Write>(&self, f: &mut fmt::Formatter<W>) -> fmt::Result {
         f.write_str(match self {
             Refusal::EndsEarly => "the record ends early",

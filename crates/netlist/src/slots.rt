@@ -7,6 +7,10 @@ ghost use Rattle.netlist.specs.Slots.{used, standing};
 ghost use Rattle.netlist.specs.Netlist.{in_order};
 ghost use Rattle.netlist.specs.Standing.{left};
 
+use self::standing::Standing;
+
+pub mod standing;
+
 // What may stand in a place of a table, and how it goes with the value at the last place before it that is used.
 pub trait Slot: Copy {
     ghost fine: { Self → Bool };
@@ -23,7 +27,7 @@ pub trait Slot: Copy {
     ghost small: { 8 * type_size Self.row < 2 ^ 63 };
 }
 
-// Bit i of the map says whether place i is used.
+// Bit i of the map says whether place i is used: the form that a record has, and that needs no memory of its own.
 #[derive(Clone, Copy, PartialEq, Eq, Debug)]
 pub struct Slots<T> {
     pub map: u8,
@@ -62,13 +66,6 @@ impl<T: Slot> Slots<T> {
     }
 }
 
-// The used places that are still to come.
-#[derive(Clone, Copy)]
-pub struct Standing<'a, T> {
-    map: u8,
-    values: &'a [T],
-}
-
 impl<'a, T: Copy> Iterator for Standing<'a, T> {
     type Item = (u32, T);
 
@@ -82,8 +79,7 @@ impl<'a, T: Copy> Iterator for Standing<'a, T> {
         }
         let place = self.map.trailing_zeros();
         let values = self.values;
-        let value = values.get(place as usize)?;
         self.map &= self.map - 1;
-        Some((place, *value))
+        Some((place, values[place as usize]))
     }
 }

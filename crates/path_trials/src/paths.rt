@@ -104,13 +104,11 @@ impl Tables {
 
 // A shifter is needed exactly where the driver's voltage is below the receiver's.
 fn climbs(ends: Ends, stages: &[Stage]) -> bool {
-    match (
-        stages.get(usize::from(ends.driver)),
-        stages.get(usize::from(ends.receiver)),
-    ) {
-        (Some(driver), Some(receiver)) => driver.voltage < receiver.voltage,
-        _ => false,
-    }
+    let driver = stages.get(usize::from(ends.driver));
+    let receiver = stages.get(usize::from(ends.receiver));
+    driver
+        .zip(receiver)
+        .is_some_and(|(driver, receiver)| driver.voltage < receiver.voltage)
 }
 
 impl Assigned {

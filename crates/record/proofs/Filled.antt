@@ -151,7 +151,7 @@ module _ {T : Type 0} (none : T) (width : ℕ) (entry : Option T → ℕ → Res
         byte = w.byte;
         counted = omega arith;
         none_before = λ j h. cleared_to left w j (omega arith);
-        same_after = λ j a h. same_above left r.byte w j (omega arith) ∙ r.same_after j (omega arith) h;
+        same_after = λ j a h. same_above left w j (omega arith) h ∙ r.same_after j (omega arith) h;
         filling = filling_reads map start t xs last at x n.here lt n.stands e;
       }
 

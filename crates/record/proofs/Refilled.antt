@@ -10,7 +10,7 @@ use Rattle.netlist.specs.Refusals.{first_broken, unless_refused}
 use Rattle.netlist.specs.Slots.{bit, used, Menu, Supplies}
 use Rattle.std.proofs.lemmas.Bool.{cases_Bool}
 use Rattle.std.proofs.lemmas.List.{at_drop_all, at_drop_more}
-use Rattle.netlist.proofs.Bools.{every_at}
+use Rattle.netlist.proofs.Bools.{list_all_get}
 use Rattle.netlist.proofs.Kept.{kept_supplies}
 use Rattle.netlist.proofs.Rebuilt.{front, front_none, front_all, front_skips, supply_added, supply_accepted, module_accepted, module_added}
 
@@ -69,7 +69,7 @@ module _ (t : Terms) (s : Supplies) (menus : List Menu) (few : length menus ≤ 
       r ≡ unless_refused o n (with_module n (get_or menus k d).map (get_or menus k d).values) → r ≡ some_menus (k + 1)
   menus_put k l d n r o e a f =
       let m = get_or menus k d in
-      let q = every_at (menu_lawful s.map) menus h k d l in
+      let q = list_all_get (menu_lawful s.map) menus h k d l in
       let c = length-take-le k menus (omega arith) in
       let ok : first_broken (module_rules n m.map m.values) ≡ None =
       ap (λ x. first_broken (module_rules x m.map m.values)) e ∙ module_accepted (some_menus k) m q (omega arith) in

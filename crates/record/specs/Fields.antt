@@ -31,6 +31,7 @@ field width bytes at = if nat_lt (length bytes) (at + width) then Err (field_fau
 abbrev pub limited : ℕ → ℕ → ℕ → ℕ → Result ℕ FieldFault
 limited low high at n = if within low high n then Ok n else Err (field_fault Limit at)
 
+-- the same with the place after the field
 abbrev pub in_limits : ℕ → ℕ → ℕ → ℕ → ℕ → Read ℕ FieldFault
 in_limits low high width at n = if within low high n then Ok (n, at + width) else Err (field_fault Limit at)
 

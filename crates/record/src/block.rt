@@ -13,32 +13,24 @@ use netlist::refusal::Refusal;
 
 const CYCLE: Field = Field {
     width: 4,
-    low: 1,
     high: 2_000_000,
 };
 
 // A shifter's delay, and its power.
 const SHIFTER: Field = Field {
     width: 2,
-    low: 1,
     high: 10_000,
 };
 
-const MODULES: Field = Field {
-    width: 1,
-    low: 1,
-    high: 64,
-};
+const MODULES: Field = Field { width: 1, high: 64 };
 
 const NETS: Field = Field {
     width: 2,
-    low: 1,
     high: 256,
 };
 
 const WIRE: Field = Field {
     width: 2,
-    low: 1,
     high: 10_000,
 };
 

@@ -8,11 +8,10 @@ use crate::cursor::Cursor;
 use faults::FieldFault;
 use netlist::refusal::Refusal;
 
-// How many bytes a field has, and the limits of its number.
+// How many bytes a field has, and the highest number that it may hold; the lowest is 1.
 #[derive(Clone, Copy)]
 pub(crate) struct Field {
     pub(crate) width: usize,
-    pub(crate) low: u32,
     pub(crate) high: u32,
     ghost narrow: { width ≤ 4 },
 }
@@ -20,10 +19,10 @@ pub(crate) struct Field {
 impl Field {
     // The number at a place, if it lies in the limits.
     fn limited(self, n: u32, at: usize) -> Result<u32, FieldFault>
-        ensures value { result ≡ limited self.low self.high at n }
+        ensures value { result ≡ limited 1 self.high at n }
         ensures limit { IfOk result (λ x. x ≤ self.high) }
     {
-        if n < self.low || n > self.high {
+        if !(1..=self.high).contains(&n) {
             return Err(FieldFault {
                 refusal: Refusal::Limit,
                 at,
@@ -58,7 +57,7 @@ impl Cursor<'_> {
     }
 
     pub(crate) fn required(&mut self, field: Field) -> Result<u32, FieldFault>
-        ensures value { placed result self.new.at ≡ required field.width field.low field.high self.old.bytes.now self.old.at }
+        ensures value { placed result self.new.at ≡ required field.width 1 field.high self.old.bytes.now self.old.at }
         ensures same { self.new.bytes ≡ self.old.bytes }
     {
         let at = self.at;
@@ -68,7 +67,6 @@ impl Cursor<'_> {
 
     // A field whose absence means 0.
     pub(crate) fn optional(&mut self, present: bool, field: Field) -> Result<u32, FieldFault>
-        requires { field.low ≡ 1 }
         ensures value { placed result self.new.at ≡ optional present field.width field.high self.old.bytes.now self.old.at }
         ensures limit { IfOk result (λ x. x ≤ field.high) }
         ensures same { self.new.bytes ≡ self.old.bytes }

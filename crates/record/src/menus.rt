@@ -47,7 +47,8 @@ impl Cursor<'_> {
         checked(Choice { delay, power }, last, at)
     }
 
-    // Reads as many modules as there are places, the first of which is block `first`.
+    // Reads as many modules as there are places, the first of which is block `first`. Both loops are left at the first
+    // fault, so a menu is read in here and not by what reads other tables.
     pub(crate) fn menus(
         &mut self,
         supplies: u8,

@@ -1,4 +1,4 @@
--- The worked example: its design and its record of 64 bytes. Assumes nothing.
+-- The worked example's record is 64 bytes long, reads as its design, and is what its design is written as. Assumes nothing.
 use Rattle.std.specs.Prelude.{◌≡◌, length, Ok}
 use Rattle.example.specs.Example.{example, example_bytes}
 use Rattle.record.specs.Record.{reads_as, record_of}

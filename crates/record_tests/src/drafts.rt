@@ -27,6 +27,10 @@ fn choices(first: Choice, second: Choice) -> [Choice; 8] {
     all
 }
 
+fn module(draft: &mut Draft, map: u8, first: Choice, second: Choice) -> Result<(), u32> {
+    numbered(draft.module(map, &choices(first, second)))
+}
+
 #[test]
 fn terms_at_their_limits(rt: HostRuntime) -> Result<(), Fail> {
     let mut draft = Draft::new(rt.alloc())?;
@@ -79,31 +83,16 @@ fn menus_name_supplies(rt: HostRuntime) -> Result<(), Fail> {
         power: 30,
         ..THRIFTY
     };
+    assert_eq!(rt; module(&mut draft, 3, too_quick, THRIFTY), Err(5));
+    assert_eq!(rt; module(&mut draft, 3, QUICK, too_slow), Err(5));
+    assert_eq!(rt; module(&mut draft, 3, too_hungry, THRIFTY), Err(5));
+    assert_eq!(rt; module(&mut draft, 3, QUICK, no_slower), Err(6));
+    assert_eq!(rt; module(&mut draft, 3, QUICK, no_thriftier), Err(6));
+    assert_eq!(rt; module(&mut draft, 0, QUICK, THRIFTY), Err(7));
+    assert_eq!(rt; module(&mut draft, 4, QUICK, THRIFTY), Err(7));
+    assert_eq!(rt; module(&mut draft, 3, QUICK, THRIFTY), Ok(()));
     assert_eq!(rt;
-        numbered(draft.module(3, &choices(too_quick, THRIFTY))),
-        Err(5)
-    );
-    assert_eq!(rt;
-        numbered(draft.module(3, &choices(QUICK, too_slow))),
-        Err(5)
-    );
-    assert_eq!(rt;
-        numbered(draft.module(3, &choices(too_hungry, THRIFTY))),
-        Err(5)
-    );
-    assert_eq!(rt;
-        numbered(draft.module(3, &choices(QUICK, no_slower))),
-        Err(6)
-    );
-    assert_eq!(rt;
-        numbered(draft.module(3, &choices(QUICK, no_thriftier))),
-        Err(6)
-    );
-    assert_eq!(rt; numbered(draft.module(0, &choices(QUICK, THRIFTY))), Err(7));
-    assert_eq!(rt; numbered(draft.module(4, &choices(QUICK, THRIFTY))), Err(7));
-    assert_eq!(rt; numbered(draft.module(3, &choices(QUICK, THRIFTY))), Ok(()));
-    assert_eq!(rt;
-        numbered(draft.module(2, &choices(Choice::NONE, THRIFTY))),
+        module(&mut draft, 2, Choice::NONE, THRIFTY),
         Ok(()),
         "read only at its bits"
     );

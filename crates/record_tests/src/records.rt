@@ -34,15 +34,6 @@ impl From<RecordFault> for Told {
     }
 }
 
-// One byte of the example changed, and the number and place of the refusal.
-#[derive(Clone, Copy)]
-struct Damage {
-    byte: usize,
-    value: u8,
-    number: u32,
-    place: Place,
-}
-
 // Each map and field of the example, in their order.
 const PLACES: [Place; 25] = [
     Place { block: 0, at: 0 },
@@ -72,38 +63,38 @@ const PLACES: [Place; 25] = [
     Place { block: 6, at: 63 },
 ];
 
-#[rattlefmt::skip]
-const DAMAGED: [Damage; 30] = [
-    Damage { byte: 0, value: 0x3f, number: 3, place: Place { block: 0, at: 0 } },
-    Damage { byte: 0, value: 0x1e, number: 3, place: Place { block: 0, at: 0 } },
-    Damage { byte: 4, value: 0, number: 5, place: Place { block: 0, at: 1 } },
-    Damage { byte: 1, value: 1, number: 5, place: Place { block: 0, at: 1 } },
-    Damage { byte: 6, value: 0, number: 4, place: Place { block: 0, at: 5 } },
-    Damage { byte: 5, value: 40, number: 5, place: Place { block: 0, at: 5 } },
-    Damage { byte: 8, value: 0, number: 4, place: Place { block: 0, at: 7 } },
-    Damage { byte: 7, value: 40, number: 5, place: Place { block: 0, at: 7 } },
-    Damage { byte: 9, value: 0, number: 4, place: Place { block: 0, at: 9 } },
-    Damage { byte: 9, value: 65, number: 5, place: Place { block: 0, at: 9 } },
-    Damage { byte: 11, value: 0, number: 4, place: Place { block: 0, at: 10 } },
-    Damage { byte: 10, value: 2, number: 5, place: Place { block: 0, at: 10 } },
-    Damage { byte: 13, value: 0, number: 5, place: Place { block: 1, at: 13 } },
-    Damage { byte: 13, value: 20, number: 5, place: Place { block: 1, at: 13 } },
-    Damage { byte: 15, value: 5, number: 6, place: Place { block: 1, at: 15 } },
-    Damage { byte: 17, value: 0, number: 7, place: Place { block: 2, at: 17 } },
-    Damage { byte: 17, value: 5, number: 7, place: Place { block: 2, at: 17 } },
-    Damage { byte: 19, value: 0, number: 5, place: Place { block: 2, at: 18 } },
-    Damage { byte: 20, value: 1, number: 5, place: Place { block: 2, at: 18 } },
-    Damage { byte: 23, value: 0, number: 5, place: Place { block: 2, at: 18 } },
-    Damage { byte: 25, value: 4, number: 6, place: Place { block: 2, at: 24 } },
-    Damage { byte: 29, value: 30, number: 6, place: Place { block: 2, at: 24 } },
-    Damage { byte: 43, value: 0x83, number: 7, place: Place { block: 4, at: 43 } },
-    Damage { byte: 56, value: 0x0f, number: 3, place: Place { block: 5, at: 56 } },
-    Damage { byte: 56, value: 0x05, number: 3, place: Place { block: 5, at: 56 } },
-    Damage { byte: 57, value: 1, number: 8, place: Place { block: 5, at: 58 } },
-    Damage { byte: 58, value: 3, number: 8, place: Place { block: 5, at: 58 } },
-    Damage { byte: 60, value: 0, number: 4, place: Place { block: 5, at: 59 } },
-    Damage { byte: 59, value: 40, number: 5, place: Place { block: 5, at: 59 } },
-    Damage { byte: 61, value: 0x07, number: 1, place: Place { block: 6, at: 64 } },
+// The example with one byte changed: the byte and its new value, and the number and place of the refusal.
+const DAMAGED: [(usize, u8, u32, Place); 30] = [
+    (0, 0x3f, 3, Place { block: 0, at: 0 }),
+    (0, 0x1e, 3, Place { block: 0, at: 0 }),
+    (4, 0, 5, Place { block: 0, at: 1 }),
+    (1, 1, 5, Place { block: 0, at: 1 }),
+    (6, 0, 4, Place { block: 0, at: 5 }),
+    (5, 40, 5, Place { block: 0, at: 5 }),
+    (8, 0, 4, Place { block: 0, at: 7 }),
+    (7, 40, 5, Place { block: 0, at: 7 }),
+    (9, 0, 4, Place { block: 0, at: 9 }),
+    (9, 65, 5, Place { block: 0, at: 9 }),
+    (11, 0, 4, Place { block: 0, at: 10 }),
+    (10, 2, 5, Place { block: 0, at: 10 }),
+    (13, 0, 5, Place { block: 1, at: 13 }),
+    (13, 20, 5, Place { block: 1, at: 13 }),
+    (15, 5, 6, Place { block: 1, at: 15 }),
+    (17, 0, 7, Place { block: 2, at: 17 }),
+    (17, 5, 7, Place { block: 2, at: 17 }),
+    (19, 0, 5, Place { block: 2, at: 18 }),
+    (20, 1, 5, Place { block: 2, at: 18 }),
+    (23, 0, 5, Place { block: 2, at: 18 }),
+    (25, 4, 6, Place { block: 2, at: 24 }),
+    (29, 30, 6, Place { block: 2, at: 24 }),
+    (43, 0x83, 7, Place { block: 4, at: 43 }),
+    (56, 0x0f, 3, Place { block: 5, at: 56 }),
+    (56, 0x05, 3, Place { block: 5, at: 56 }),
+    (57, 1, 8, Place { block: 5, at: 58 }),
+    (58, 3, 8, Place { block: 5, at: 58 }),
+    (60, 0, 4, Place { block: 5, at: 59 }),
+    (59, 40, 5, Place { block: 5, at: 59 }),
+    (61, 0x07, 1, Place { block: 6, at: 64 }),
 ];
 
 fn reading(bytes: &[u8], draft: &mut Draft) -> Result<(), Told> {
@@ -179,13 +170,7 @@ fn each_damage_has_its_number_and_place(rt: HostRuntime) -> Result<(), Fail> {
     let record = record_bytes();
     let mut draft = Draft::new(rt.alloc())?;
     read(&record, &mut draft)?;
-    for damage in DAMAGED {
-        let Damage {
-            byte,
-            value,
-            number,
-            place,
-        } = damage;
+    for (byte, value, number, place) in DAMAGED {
         let mut bytes = record;
         assert!(rt; byte < 64);
         bytes[byte] = value;

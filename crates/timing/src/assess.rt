@@ -8,7 +8,7 @@ ghost use Rattle.timing.specs.Published.{OneToOne};
 use crate::assignment::Assignment;
 use netlist::design::Design;
 
-// Its power, the longest delay of a path, and whether it meets the cycle.
+// Its power, the longest delay of a path, and whether it meets the cycle, which is a figure like the others.
 #[derive(Clone, Copy, PartialEq, Eq, Debug)]
 pub struct Figures {
     pub power: u32,

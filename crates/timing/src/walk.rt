@@ -76,14 +76,14 @@ pub fn walk<W: Way, D: DelayModel>(design: &Design, delays: &D) -> [u32; 64]
     ensures value { result ≡ arrivals_at W.Way.keeps (timed_by (view design.now) (D.DelayModel.model delays.now)) (modules (view design.now)) ++ replicate (64 - modules (view design.now)) 0 }
     ensures paths { (m : ℕ) → m < modules (view design.now) → Arrives W.Way.keeps (timed_by (view design.now) (D.DelayModel.model delays.now)) m (slice_index result m) }
 {
-    let mut walk = Walker {
+    let mut walker = Walker {
         design,
         delays,
         at: 0,
         known: [0u32; 64],
     };
     for _ in design.menus() {
-        walk.settle::<W>();
+        walker.settle::<W>();
     }
-    walk.known
+    walker.known
 }

@@ -11,25 +11,16 @@ use timing::listing::listed_before;
 
 const CYCLE: u32 = 16;
 
-// An assignment of the example, with its power and its longest delay.
-#[derive(Clone, Copy)]
-struct Assigned {
-    supplies: [u8; 3],
-    power: u32,
-    delay: u32,
-}
-
-// All of them, in listing order.
-#[rattlefmt::skip]
-const EACH: [Assigned; 8] = [
-    Assigned { supplies: [0, 0, 0], power: 90, delay: 13 },
-    Assigned { supplies: [0, 0, 1], power: 72, delay: 16 },
-    Assigned { supplies: [0, 1, 0], power: 83, delay: 16 },
-    Assigned { supplies: [0, 1, 1], power: 63, delay: 18 },
-    Assigned { supplies: [1, 0, 0], power: 80, delay: 16 },
-    Assigned { supplies: [1, 0, 1], power: 62, delay: 19 },
-    Assigned { supplies: [1, 1, 0], power: 71, delay: 18 },
-    Assigned { supplies: [1, 1, 1], power: 51, delay: 20 },
+// Each assignment of the example, in listing order, with its power and its longest delay.
+const EACH: [([u8; 3], u32, u32); 8] = [
+    ([0, 0, 0], 90, 13),
+    ([0, 0, 1], 72, 16),
+    ([0, 1, 0], 83, 16),
+    ([0, 1, 1], 63, 18),
+    ([1, 0, 0], 80, 16),
+    ([1, 0, 1], 62, 19),
+    ([1, 1, 0], 71, 18),
+    ([1, 1, 1], 51, 20),
 ];
 
 fn example(heap: Global) -> Result<Draft, Fail> {
@@ -41,13 +32,13 @@ fn example(heap: Global) -> Result<Draft, Fail> {
 #[test]
 fn each_assignment_has_its_figures(rt: HostRuntime) -> Result<(), Fail> {
     let draft = example(rt.alloc())?;
-    for assigned in EACH {
+    for (supplies, power, delay) in EACH {
         let figures = Figures {
-            power: assigned.power,
-            delay: assigned.delay,
-            meets: assigned.delay <= CYCLE,
+            power,
+            delay,
+            meets: delay <= CYCLE,
         };
-        assert_eq!(rt; assess(draft.design(), &assigned.supplies), Some(figures));
+        assert_eq!(rt; assess(draft.design(), &supplies), Some(figures));
     }
     Ok(())
 }
@@ -108,9 +99,9 @@ fn arrivals_and_the_critical_path(rt: HostRuntime) -> Result<(), Fail> {
 
 #[test]
 fn listing_order(rt: HostRuntime) {
-    for (i, earlier) in EACH.iter().enumerate() {
-        for (k, later) in EACH.iter().enumerate() {
-            assert_eq!(rt; listed_before(&earlier.supplies, &later.supplies), i < k);
+    for (i, (earlier, ..)) in EACH.iter().enumerate() {
+        for (k, (later, ..)) in EACH.iter().enumerate() {
+            assert_eq!(rt; listed_before(earlier, later), i < k);
         }
     }
 }

@@ -59,7 +59,7 @@ impl Tracer<'_, '_, '_> {
         )
     }
 
-    // The path back from a module, net by net, along which its arrival came.
+    // The path back from a module, net by net, along which its arrival came. The count is the length of the path so far.
     fn trace(&self, end: u32) -> CriticalPath
         requires { end < modules (planned self.now.assignment.now) }
         ensures end { result.end ≡ end }

@@ -12,6 +12,13 @@ pub enum Flaw {
     AboveSeven,
 }
 
+const FLAWS: [Flaw; 4] = [
+    Flaw::TooShort,
+    Flaw::TooLong,
+    Flaw::OffMenu,
+    Flaw::AboveSeven,
+];
+
 impl Drawer {
     // A supply of its menu for each module.
     pub(crate) fn assignment(&mut self, tables: &Tables) -> Result<Vec<u8>, AllocError> {
@@ -36,12 +43,7 @@ impl Drawer {
         if tables.modules.is_empty() {
             return Flaw::TooLong;
         }
-        match self.random.between(0, 3) {
-            0 => Flaw::TooShort,
-            1 => Flaw::TooLong,
-            2 => Flaw::OffMenu,
-            _ => Flaw::AboveSeven,
-        }
+        FLAWS[self.random.between(0, 3) as usize]
     }
 
     fn spoil(

@@ -11,7 +11,8 @@ use super::Assignment;
 impl Assignment<'_, '_> {
     // The shifter power where a net needs a shifter, else 0.
     fn net_power(&self, net: u32) -> u32
-        ensures { result ≡ power_along (planned self.now) (named self.now) net }
+        ensures value { result ≡ power_along (planned self.now) (named self.now) net }
+        ensures bound { result ≤ 10000 }
     {
         self.shifter(net).map_or(0, |shifter| shifter.power)
     }

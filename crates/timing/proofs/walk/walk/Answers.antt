@@ -17,8 +17,8 @@ loop-preserved g c =
     let m = c.loop.index in
     let few = (keeps_rules n ok).at_most_64 in
     let menus = ap length c.menus-items.ensures in
-    let settled : c.settle.new.self.known ≡ set c.loop.walk.known m (done keep (timed_by n d) c.loop.walk.known m) = search rules in
-    record { design = search rules; delays = search rules; at = search rules; known = settled ∙ arrivals_more n ok keep d c.loop.walk.known m c.loop.invariant.known _ (omega arith) refl }
+    let settled : c.settle.new.self.known ≡ set c.loop.walker.known m (done keep (timed_by n d) c.loop.walker.known m) = search rules in
+    record { design = search rules; delays = search rules; at = search rules; known = settled ∙ arrivals_more n ok keep d c.loop.walker.known m c.loop.invariant.known _ (omega arith) refl }
 
 pub returns-clause-paths : goal.returns-clause-paths
 returns-clause-paths g c =
@@ -27,4 +27,4 @@ returns-clause-paths g c =
     let d = g.D.DelayModel.model c.args.delays.now in
     let menus = ap length c.menus-items.ensures in
     let all : c.loop.index ≡ modules n = omega arith in
-    walked n c.args.design.now.ok keep g.met.W.Way.one d c.loop.walk.known _ (subst (λ k. c.loop.walk.known ≡ arrivals keep (timed_by n d) k ++ replicate (64 - k) 0) all c.loop.invariant.known)
+    walked n c.args.design.now.ok keep g.met.W.Way.one d c.loop.walker.known _ (subst (λ k. c.loop.walker.known ≡ arrivals keep (timed_by n d) k ++ replicate (64 - k) 0) all c.loop.invariant.known)

@@ -1,5 +1,4 @@
 use Rattle.std.proofs.Common.{arith}
-use Rattle.std.proofs.lemmas.Grind.{common_steps}
 use Rattle.writer.proofs.Left.{next_fits, next_entry}
 use Rattle.writer.proofs.entry.put_all.Goals as goal
 
@@ -7,8 +6,3 @@ pub put-requires : goal.put-requires
 put-requires g c =
     let e = next_entry g.T.Entry.bytes c.args.entries.now c.loop-entry.entry-index c.entry-item.result (omega arith) c.entry-item.is in
     next_fits _ _ _ _ _ _ c.loop-entry.invariant e _ c.requires
-
-pub loop-entry-preserved : goal.loop-entry-preserved
-loop-entry-preserved g c =
-    let e = next_entry g.T.Entry.bytes c.args.entries.now c.loop-entry.entry-index c.entry-item.result (omega arith) c.entry-item.is in
-    grind (arith, common_steps)
