@@ -1,16 +1,16 @@
 -- Paths traced back from the module at which they end. Assumes nothing.
-use Rattle.std.proofs.Common.{◌≡◌, ℕ, ◌+◌, ◌<◌, max, true, List, [], ◌∷◌, ◌++◌, map, length, get_or, fold, sym, refl, ap, ◌∙◌, subst, append_assoc, append-nil, Some, None, Option, MatchOption, arith}
+use Rattle.std.proofs.Common.{◌≡◌, ℕ, zero, suc, ◌+◌, ◌<◌, ◌≤◌, max, true, List, [], ◌∷◌, ◌++◌, map, length, get_or, fold, sym, refl, ap, ◌∙◌, subst, append_assoc, append-nil, Some, None, Option, MatchOption, arith}
 use Rattle.netlist.specs.FanIn.{fan_in}
 use Rattle.netlist.specs.Netlist.{Netlist, modules, lawful}
 use Rattle.netlist.specs.Rules.{net}
 use Rattle.std.proofs.ByRecursion.{All-get_or}
 use Rattle.std.proofs.lemmas.Option.{none-some, same_Some}
-use Rattle.std.specs.List.{AllWithin, HoldsAt, reduce}
+use Rattle.std.specs.List.{AllWithin, HoldsAt, IsFirstMaxByKey, reduce}
 use Rattle.timing.specs.Arrivals.{Into, over_net, kept, arrivals, latest}
 use Rattle.timing.specs.Paths.{Timed, timed, model, module_delay, PathTo, path_delay}
 use Rattle.timing.proofs.Arrived.{arrival, over_some}
 use Rattle.timing.proofs.FanIns.{fan_in_has}
-use Rattle.timing.proofs.Keeps.{folded_one}
+use Rattle.timing.proofs.Keeps.{folded_one, folded_prevails}
 use Rattle.timing.specs.Ways.{keeps_later}
 use Rattle.timing.proofs.Reach.{into_ends, fan_in_into}
 use Rattle.timing.proofs.Walked.{forward, table_at}
@@ -74,6 +74,17 @@ module _ (n : Netlist) (ok : lawful n ≡ true) (a known rest : List ℕ) (same 
       let ready : get_or known m 0 ≡ 0 + module_delay n a m = at m h ∙ ap (λ (is : List ℕ). kept max 0 (map (over_net g (arrivals max g m)) is) + module_delay n a m) none in
       let P : List ℕ → Type 0 = λ xs. PathTo g end xs × (path_delay g end xs ≡ get_or known end 0) in
       subst P e (whole.0, omega (arith, whole.1))
+
+-- the greatest of a list by its place
+pub best_greatest : (ts : List ℕ) (b : ℕ) → IsFirstMaxByKey (λ t. t) ts (length ts) b → get_or ts b 0 ≡ fold max 0 ts
+best_greatest ts b best = go (folded_one max keeps_later 0 ts)
+  where
+    above : get_or ts b 0 ≤ fold max 0 ts
+    above = let p = folded_prevails max keeps_later 0 ts (suc b) (let h = best.0 in omega arith) in omega arith
+
+    go : (k : ℕ) × (k < length (0 ∷ ts)) × (get_or (0 ∷ ts) k 0 ≡ fold max 0 ts) → get_or ts b 0 ≡ fold max 0 ts
+    go (zero, h, e) = omega (arith, above)
+    go (suc k, h, e) = let l = best.1 k 0 (omega arith) in omega (arith, above)
 
 -- the first place of the greatest of a list
 pub first_greatest : (ts : List ℕ) (t : ℕ) (r : Option ℕ) → reduce max ts ≡ Some t → MatchOption r (AllWithin (λ u. u ≡ t → ⊥) ts 0 (length ts)) (λ m. (m < length ts) × HoldsAt (λ u. u ≡ t) ts m × AllWithin (λ u. u ≡ t → ⊥) ts 0 m) →

@@ -4,7 +4,7 @@ use Rattle.std.specs.List.{list_all}
 use Rattle.std.proofs.lemmas.Nat.{pow-add, pow_below}
 use Rattle.std.proofs.lemmas.List.{length-set, nil_from_length}
 use Rattle.std.proofs.lemmas.Bool.Decides.{nat_tests}
-use Rattle.netlist.specs.Calls.{terms_of, with_terms, with_supply, menu_of, with_module}
+use Rattle.netlist.specs.Calls.{terms_of, with_terms, with_supply, menu_of, with_module, net_of, with_net}
 use Rattle.netlist.specs.Netlist.{Netlist, lawful, in_order, modules, terms_lawful, supplies_lawful, menu_lawful, net_lawful, voltage_in_limits, voltage_follows, is_zero, choice_in_limits, choice_follows, no_choice, is_no_choice, names_supplies}
 use Rattle.netlist.specs.Slots.{standing, absent, Menu, Supplies}
 use Rattle.netlist.specs.declared.parts.Choice.{Choice}
@@ -134,4 +134,18 @@ lawful_module n map choices h e a b s l =
       menus = list_all_push (menu_lawful n.supplies.map) n.menus m k.menus g;
       few_nets = k.few_nets;
       nets = list_all_weaken (net_lawful (modules n)) (net_lawful (length (n.menus ++ m ∷ []))) n.nets (λ t j. grind (arith, nat_tests)) k.nets;
+    })
+
+pub lawful_net : (n : Netlist) (driver receiver wire : ℕ) → lawful n ≡ true → wire ≤ 10000 → driver < receiver → receiver < modules n → length n.nets < 256 → lawful (with_net n driver receiver wire) ≡ true
+lawful_net n driver receiver wire h w d r l =
+    let k = kept n h in
+    let t = net_of driver receiver wire in
+    let e : net_lawful (modules n) t ≡ true = grind (arith, nat_tests) in
+    lawful_from (with_net n driver receiver wire) (record {
+      terms = k.terms;
+      supplies = k.supplies;
+      few_modules = k.few_modules;
+      menus = k.menus;
+      few_nets = simp length-append (omega arith);
+      nets = list_all_push (net_lawful (modules n)) n.nets t k.nets e;
     })

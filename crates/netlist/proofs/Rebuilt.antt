@@ -5,15 +5,21 @@ use Rattle.std.proofs.lemmas.Nat.{pow_pos, mod_below}
 use Rattle.std.proofs.lemmas.List.{append-nil, append_assoc, length-take-le, get_or_append_left, get_or-take, get_or_default, set_at, take_all, take_more}
 use Rattle.std.proofs.lemmas.Bool.{eqb-true}
 use Rattle.std.proofs.lemmas.Bool.Decides.{nat_tests}
+use Rattle.netlist.specs.declared.parts.Terms.{Terms}
 use Rattle.netlist.specs.declared.parts.Choice.{Choice}
-use Rattle.netlist.specs.Calls.{supply_rules, with_supply, module_rules, with_module, menu_of}
-use Rattle.netlist.specs.Netlist.{Netlist, netlist, modules, supplies_lawful, menu_lawful, voltage_in_limits, voltage_follows, is_zero, no_choice, is_no_choice, no_supplies}
+use Rattle.netlist.specs.declared.parts.Net.{Net}
+use Rattle.netlist.specs.Calls.{terms_rules, supply_rules, with_supply, module_rules, with_module, menu_of, net_rules}
+use Rattle.netlist.specs.Netlist.{Netlist, netlist, modules, terms_lawful, supplies_lawful, menu_lawful, net_lawful, voltage_in_limits, voltage_follows, is_zero, no_choice, is_no_choice, no_supplies}
 use Rattle.netlist.specs.Refusals.{first_broken}
 use Rattle.netlist.specs.Slots.{bit, standing, Menu, Supplies}
 use Rattle.netlist.proofs.Kept.{kept_menu, kept_supplies}
 use Rattle.netlist.proofs.Maps.{shr_none, bit_mod_low, bit_mod_in, mod_stands, mod_skips}
 use Rattle.netlist.proofs.Places.{standing_at, standing_from, absent_at, order_at, cleared_same}
 use Rattle.netlist.proofs.Words.{voltages_chain}
+
+-- terms
+pub terms_accepted : (t : Terms) → terms_lawful t ≡ true → first_broken (terms_rules t.cycle t.shifter.delay t.shifter.power) ≡ None
+terms_accepted t h = grind (arith, nat_tests)
 
 -- modules
 pub module_accepted : (n : Netlist) (m : Menu) → menu_lawful n.supplies.map m ≡ true → modules n < 64 → first_broken (module_rules n m.map m.values) ≡ None
@@ -32,6 +38,10 @@ menu_same supplies m h =
 
 pub module_added : (n : Netlist) (m : Menu) → menu_lawful n.supplies.map m ≡ true → with_module n m.map m.values ≡ netlist n.terms n.supplies (n.menus ++ m ∷ []) n.nets
 module_added n m h = ap (λ x. netlist n.terms n.supplies (n.menus ++ x ∷ []) n.nets) (menu_same n.supplies.map m h)
+
+-- nets
+pub net_accepted : (n : Netlist) (t : Net) → net_lawful (modules n) t ≡ true → length n.nets < 256 → first_broken (net_rules n t.driver t.receiver t.wire) ≡ None
+net_accepted n t h l = grind (arith, nat_tests)
 
 -- supplies: those numbered below k
 abbrev pub filled : ℕ → List ℕ → List ℕ

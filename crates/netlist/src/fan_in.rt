@@ -26,6 +26,7 @@ impl FanIn {
 
     pub(crate) fn clear(&mut self)
         ensures nets { self.new.nets.items ≡ [] }
+        ensures capacity { vec_capacity self.new.nets ≡ vec_capacity self.old.nets }
         ensures first { self.new.first ≡ replicate 65 0 }
     {
         self.nets.clear();
@@ -38,6 +39,7 @@ impl FanIn {
         requires few { vec_len self.old.nets < 256 }
         requires within { (m : ℕ) → m < 65 → slice_index self.old.first m ≤ vec_len self.old.nets }
         ensures nets { self.new.nets.items ≡ insert self.old.nets.items (slice_index self.old.first (receiver + 1)) net }
+        ensures capacity { vec_capacity self.new.nets ≡ vec_capacity self.old.nets }
         ensures size { length self.new.first ≡ 65 }
         ensures first { (m : ℕ) → m < 65 → slice_index self.new.first m ≡ slice_index self.old.first m + (if nat_lt receiver m then 1 else 0) }
     {

@@ -1,9 +1,9 @@
 -- Loops that fill a table of eight places, or a list of blocks, as they read. Assumes nothing.
-use Rattle.std.proofs.Common.{◌≡◌, ℕ, zero, suc, ◌+◌, ◌-◌, ◌%◌, ◌<◌, ◌≤◌, true, false, cond, eqb, List, [], ◌∷◌, ◌++◌, length, get_or, take, set, Some, None, Ok, Err, Option, Result, sym, refl, ap, ◌∙◌, subst, inl, inr, append_assoc, arith, pow_pos}
+use Rattle.std.proofs.Common.{◌≡◌, ℕ, zero, suc, ◌+◌, ◌-◌, ◌%◌, ◌<◌, ◌≤◌, true, false, cond, eqb, List, [], ◌∷◌, ◌++◌, length, get_or, take, set, replicate, Some, None, Ok, Err, Option, Result, sym, refl, ap, ◌∙◌, subst, inl, inr, append_assoc, arith, pow_pos}
 use native.Mathlib.Nat.{div-eq_of_lt}
 use lib.Bits.{bit_and}
 use lib.Count.{ones, count_trailing_zeros}
-use Rattle.std.proofs.lemmas.List.{take_more, take_more_set, take_all, append-nil, length-set, get_or-set_other}
+use Rattle.std.proofs.lemmas.List.{take_more, take_more_set, take_all, append-nil, length-set, get_or-replicate, get_or_past, get_or-set_other, length-replicate}
 use Rattle.std.proofs.lemmas.Bool.{cases_lt, both_ways}
 use Rattle.netlist.specs.Slots.{bit}
 use Rattle.faults.specs.declared.FieldFault.{FieldFault}
@@ -16,6 +16,10 @@ abbrev pub onto : {T E : Type 0} → List T → Read (List T) E → Read (List T
 onto xs (Ok r) = Ok (xs ++ r.0, r.1)
 onto xs (Err e) = Err e
 
+pub onto_none : {T E : Type 0} (r : Read (List T) E) → onto [] r ≡ r
+onto_none (Ok r) = refl
+onto_none (Err e) = refl
+
 pub onto_ahead : {T E : Type 0} (xs : List T) (x : T) (r : Read (List T) E) → onto xs (ahead x r) ≡ onto (xs ++ x ∷ []) r
 onto_ahead xs x (Ok r) = ap (λ k. Ok (k, r.1)) (sym (append_assoc xs (x ∷ []) r.0))
 onto_ahead xs x (Err e) = refl
@@ -23,6 +27,10 @@ onto_ahead xs x (Err e) = refl
 -- nothing stands from place i on
 abbrev pub EmptyFrom : {T : Type 0} → T → ℕ → List T → Type 0
 EmptyFrom none i xs = (k : ℕ) → i ≤ k → get_or xs k none ≡ none
+
+empty_at_first : {T : Type 0} (none : T) (n i : ℕ) → EmptyFrom none i (replicate n none)
+empty_at_first none n i k l =
+    elim (cases_lt k n) [ inl h ↦ get_or-replicate n k none none h | inr h ↦ get_or_past (replicate n none) k none (subst (λ j. j ≤ k) (sym (length-replicate n none)) h) ]
 
 empty_after : {T : Type 0} (none : T) (i : ℕ) (xs : List T) (x : T) → EmptyFrom none i xs → EmptyFrom none (i + 1) (set xs i x)
 empty_after none i xs x h k l = get_or-set_other xs i k x none (λ e. omega arith) ∙ h k (omega arith)
@@ -82,6 +90,9 @@ module _ {T : Type 0} (none : T) (width : ℕ) (entry : Option T → ℕ → Res
     pub empty : EmptyFrom none i xs
     pub whole : onto (take i xs) (slots none width entry (8 - i) map i last at) ≡ slots none width entry 8 map 0 None start
 
+  filling_starts : (map start : ℕ) → Filling map start 0 (replicate 8 none) None start
+  filling_starts map start = record { eight = refl; empty = empty_at_first none 8 0; whole = onto_none (slots none width entry 8 map 0 None start) }
+
   filling_reads : (map start i : ℕ) (xs : List T) (last : Option T) (at : ℕ) (x : T) → Filling map start i xs last at → i < 8 → bit map i ≡ true → entry last at ≡ Ok x →
       Filling map start (i + 1) (set xs i x) (Some x) (at + width)
   filling_reads map start i xs last at x f l b e = record {
@@ -112,6 +123,17 @@ module _ {T : Type 0} (none : T) (width : ℕ) (entry : Option T → ℕ → Res
     pub none_before : (j : ℕ) → j < place → bit left j ≡ false
     pub same_after : (j : ℕ) → place ≤ j → j < 8 → bit left j ≡ bit map j
     pub filling : Filling map start place xs last at
+
+  pub reading_starts : (map start : ℕ) → map < 256 → Reading map start 0 map (replicate 8 none) None start
+  reading_starts map start b = record {
+    place = 0;
+    in_table = omega arith;
+    byte = b;
+    counted = omega arith;
+    none_before = λ j h. absurd (omega arith);
+    same_after = λ j a h. refl;
+    filling = filling_starts map start;
+  }
 
   -- where a field is still to come, its place is the lowest bit left
   pub record Next (map start left : ℕ) (xs : List T) (last : Option T) (at : ℕ) : Type 0 where

@@ -1,12 +1,13 @@
 -- The parts of an accepted record. Assumes nothing.
-use Rattle.std.proofs.Common.{◌≡◌, ℕ, ◌+◌, false, ltb, List, length, Ok}
+use Rattle.std.proofs.Common.{◌≡◌, ℕ, ◌+◌, ◌<◌, ◌≤◌, false, ltb, List, length, Ok, Err, ◌∙◌}
+use Rattle.std.proofs.lemmas.Bool.{lt-ltb, le-ltb}
 use Rattle.netlist.specs.declared.parts.Net.{Net}
 use Rattle.netlist.specs.Netlist.{Netlist, netlist}
 use Rattle.faults.specs.declared.RecordFault.TheVariants.{Block, BytesFollow}
 use Rattle.record.specs.declared.head.Head.{Head}
 use Rattle.record.specs.Steps.{inside}
 use Rattle.record.specs.Blocks.{head_block, supplies_block, menu_block, net_block}
-use Rattle.record.specs.Record.{blocks, reads_as}
+use Rattle.record.specs.Record.{blocks, ended, reads_as}
 use Rattle.record.proofs.Readings.{then_ok, inside_ok, else_ok}
 use Rattle.netlist.specs.Slots.{Supplies, Menu}
 
@@ -19,6 +20,17 @@ pub record PartsRead (bs : List ℕ) (h : Head) (s : Supplies) (ms : List Menu) 
   pub supplies : supplies_block bs a ≡ Ok (s, b)
   pub menus : blocks (menu_block s.map bs) h.modules 2 b ≡ Ok (ms, c)
   pub nets : blocks (net_block h.modules bs) h.nets (2 + h.modules) c ≡ Ok (ns, to)
+
+-- what a record reads as whose parts were read: its design, or a fault where bytes follow
+module _ {bs : List ℕ} {h : Head} {s : Supplies} {ms : List Menu} {ns : List Net} {to : ℕ} (p : PartsRead bs h s ms ns to) where
+  pub parts_whole : reads_as bs ≡ ended bs (2 + h.modules + h.nets) to (netlist h.terms s ms ns)
+  parts_whole = rw (p.head, p.supplies, p.menus, p.nets)
+
+  pub parts_taken : length bs ≤ to → reads_as bs ≡ Ok (netlist h.terms s ms ns)
+  parts_taken l = parts_whole ∙ rw (le-ltb to (length bs) l)
+
+  pub parts_followed : to < length bs → reads_as bs ≡ Err (BytesFollow (2 + h.modules + h.nets) to)
+  parts_followed l = parts_whole ∙ rw (lt-ltb to (length bs) l)
 
 -- the parts of an accepted record
 pub record PartsOf (bytes : List ℕ) (n : Netlist) : Type 0 where

@@ -44,7 +44,8 @@ impl Cursor<'_> {
         }
         let delay = self.number(2)?;
         let power = self.number(4)?;
-        checked(Choice { delay, power }, last, at)
+        checked(Choice { delay, power }, last, at)?;
+        Ok(Choice { delay, power })
     }
 
     // Reads as many modules as there are places, the first of which is block `first`. Both loops are left at the first
@@ -59,9 +60,13 @@ impl Cursor<'_> {
         ensures value { filled result places.new self.new.at ≡ blocks (menu_block supplies self.old.bytes.now) (length places.old) first self.old.at }
         ensures same { self.new.bytes ≡ self.old.bytes }
     {
+        let mut cursor = Cursor {
+            bytes: self.bytes,
+            at: self.at,
+        };
         let read = 'modules: {
             for (m, place) in places.iter_mut().enumerate() {
-                let map = match self.menu_map(supplies) {
+                let map = match cursor.menu_map(supplies) {
                     Ok(map) => map,
                     Err(fault) => break 'modules Err((first + m, fault)),
                 };
@@ -70,21 +75,21 @@ impl Cursor<'_> {
                 let mut left = map;
                 for _field in 0..map.count_ones() {
                     let supply = left.trailing_zeros();
-                    let choice = match self.choice(last) {
-                        Ok(choice) => choice,
+                    // Taken apart, so that a choice stays in registers from one field to the next.
+                    let choice = match cursor.choice(last) {
+                        Ok(Choice { delay, power }) => Choice { delay, power },
                         Err(fault) => break 'modules Err((first + m, BlockFault::from(fault))),
                     };
                     choices[supply as usize] = choice;
                     last = Some(choice);
                     left &= left - 1;
                 }
-                *place = Menu {
-                    map,
-                    values: choices,
-                };
+                place.map = map;
+                place.values = choices;
             }
             Ok(())
         };
+        self.at = cursor.at;
         Ok(read?)
     }
 

@@ -2,7 +2,7 @@
 use Rattle.std.proofs.Common.{◌≡◌, ℕ, ◌<◌, ◌≤◌, Bool, true, false, cond, List, length, get_or, ap, ◌∙◌, ⊎_elim, arith}
 use Rattle.netlist.specs.declared.parts.Choice.{Choice}
 use Rattle.netlist.specs.Netlist.{Netlist, modules, lawful, no_choice}
-use Rattle.netlist.specs.Rules.{Rules, choice, no_menu, no_net}
+use Rattle.netlist.specs.Rules.{Rules, choice, net, no_menu, no_net}
 use Rattle.netlist.proofs.Words.{keeps_rules}
 use Rattle.std.proofs.lemmas.List.{get_or_past}
 use Rattle.std.proofs.lemmas.Bool.{cases_lt}
@@ -16,6 +16,9 @@ use Rattle.timing.proofs.Sums.{sum_below_bound}
 
 pub no_module : (n : Netlist) (m s : ℕ) → modules n ≤ m → choice n m s ≡ no_choice
 no_module n m s h = ap (λ x. get_or x.values s no_choice) (get_or_past n.menus m no_menu h)
+
+pub no_wire : (n : Netlist) (i : ℕ) → length n.nets ≤ i → (net n i).wire ≡ 0
+no_wire n i h = ap (λ t. t.wire) (get_or_past n.nets i no_net h)
 
 module _ (n : Netlist) (a : List ℕ) where
   pub no_shifter : (i : ℕ) → length n.nets ≤ i → needs_shifter n a i ≡ false

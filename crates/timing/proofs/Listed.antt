@@ -1,10 +1,23 @@
 -- The listing order as a test. Assumes nothing.
-use Rattle.std.proofs.Common.{◌≡◌, ℕ, zero, suc, ◌<◌, Bool, true, false, cond, not, ◌&&◌, ◌||◌, eqb, ltb, List, [], ◌∷◌, length, Some, None, Option, Bor, MatchOption, IsTrue, ◌↔◌, refl, ⊎_elim, arith}
+use Rattle.std.proofs.Common.{◌≡◌, ℕ, zero, suc, ◌+◌, ◌<◌, ◌≤◌, Bool, true, false, cond, not, ◌&&◌, ◌||◌, eqb, ltb, ◌⊎◌, List, [], ◌∷◌, length, get_or, take, drop, Some, None, Option, Bor, MatchOption, IsTrue, ◌↔◌, refl, ap, ◌∙◌, ap₂, inl, inr, ⊎_elim, arith}
 use Rattle.std.specs.List.{find, zip}
 use Rattle.std.specs.Option.{option_map}
+use Rattle.std.proofs.lemmas.List.{drop_more, drop_all}
 use Rattle.std.proofs.lemmas.Bool.Decides.{nat_tests}
 use Rattle.std.proofs.lemmas.Bool.{ltb-true, eqb-true, lt-ltb, le-ltb, eq-eqb, or_cases, or_left, or_right, and_parts, and_from}
 use Rattle.timing.specs.Assignments.{Before, before, supply}
+
+pub before_more : (a b : List ℕ) (k : ℕ) → k < length a → k < length b → before (drop k a) (drop k b) ≡ (ltb (get_or a k 0) (get_or b k 0) || (eqb (get_or a k 0) (get_or b k 0) && before (drop (k + 1) a) (drop (k + 1) b)))
+before_more a b k h l = ap₂ before (drop_more a k 0 h) (drop_more b k 0 l)
+
+-- where either ends, nothing is listed before
+pub before_none : (a b : List ℕ) (k : ℕ) → (length a ≤ k) ⊎ (length b ≤ k) → before (drop k a) (drop k b) ≡ false
+before_none a b k (inl h) = ap (λ xs. before xs (drop k b)) (drop_all k a h)
+before_none a b k (inr h) = ap (before (drop k a)) (drop_all k b h) ∙ nothing (drop k a)
+  where
+    nothing : (xs : List ℕ) → before xs [] ≡ false
+    nothing [] = refl
+    nothing (x ∷ xs) = refl
 
 -- whether the first place that differs has the lower number first
 abbrev pub lower_first : Option (ℕ × ℕ) → Bool
@@ -24,6 +37,17 @@ before_first (x ∷ a) (y ∷ b) = go (eqb x y) (eqb-true x y) (before_first a b
         lower_first (cond (not e) (Some (x, y)) (find (λ p. not (eqb p.0 p.1)) (zip a b))) ≡ (ltb x y || (e && before a b))
     go true e ih = rw (le-ltb x y (let h = e refl in omega arith)) ih
     go false e ih = grind (arith, nat_tests)
+
+-- past the end of the shorter there are no pairs
+pub zip_common : (k : ℕ) (a b : List ℕ) → (length a ≤ k) ⊎ (length b ≤ k) → zip (take k a) (take k b) ≡ zip a b
+zip_common zero [] b h = refl
+zip_common (suc k) [] b h = refl
+zip_common zero (x ∷ a) [] h = refl
+zip_common zero (x ∷ a) (y ∷ b) (inl h) = absurd (omega arith)
+zip_common zero (x ∷ a) (y ∷ b) (inr h) = absurd (omega arith)
+zip_common (suc k) (x ∷ a) [] h = refl
+zip_common (suc k) (x ∷ a) (y ∷ b) (inl h) = ap (λ ps. (x, y) ∷ ps) (zip_common k a b (inl (omega arith)))
+zip_common (suc k) (x ∷ a) (y ∷ b) (inr h) = ap (λ ps. (x, y) ∷ ps) (zip_common k a b (inr (omega arith)))
 
 words : (a b : List ℕ) → before a b ≡ true → Before a b
 words [] b t = let z : ◌≡◌ {A = ℕ} 0 1 = cc in absurd (omega arith)

@@ -1,8 +1,9 @@
 -- The test of an assignment, and what it says. Assumes nothing.
-use Rattle.std.proofs.Common.{◌≡◌, ℕ, zero, suc, ◌<◌, true, false, ◌&&◌, List, [], ◌∷◌, length, get_or, sym, refl, ap, ⊎_elim, arith}
+use Rattle.std.proofs.Common.{◌≡◌, ℕ, zero, suc, ◌+◌, ◌<◌, ◌≤◌, true, false, ◌&&◌, List, [], ◌∷◌, length, get_or, drop, sym, refl, ap, ap₂, ⊎_elim, arith}
 use Rattle.netlist.specs.Netlist.{Netlist}
 use Rattle.netlist.specs.Rules.{no_menu}
 use Rattle.netlist.specs.Slots.{bit, Menu}
+use Rattle.std.proofs.lemmas.List.{drop_more, drop_all}
 use Rattle.std.proofs.lemmas.Bool.{and_parts, and_from, cases_Bool}
 use Rattle.std.specs.List.{list_all, zip}
 use Rattle.timing.specs.Assignments.{Assigns, assigns, all_offered, supply}
@@ -16,6 +17,13 @@ as_long (m ∷ ms) (s ∷ ss) h = ap suc (as_long ms ss (and_parts (bit m.map s)
 -- lists of other lengths are none
 pub not_as_long : (ms : List Menu) (ss : List ℕ) → (length ms ≡ length ss → ⊥) → all_offered ms ss ≡ false
 not_as_long ms ss h = ⊎_elim (λ (t : all_offered ms ss ≡ true). absurd (h (sym (as_long ms ss t)))) (λ f. f) (cases_Bool (all_offered ms ss))
+
+-- one module after another
+pub offered_more : (ms : List Menu) (ss : List ℕ) (k : ℕ) → k < length ms → k < length ss → all_offered (drop k ms) (drop k ss) ≡ (bit (get_or ms k no_menu).map (get_or ss k 0) && all_offered (drop (k + 1) ms) (drop (k + 1) ss))
+offered_more ms ss k h l = ap₂ all_offered (drop_more ms k no_menu h) (drop_more ss k 0 l)
+
+pub offered_all : (ms : List Menu) (ss : List ℕ) (k : ℕ) → length ms ≤ k → length ss ≤ k → all_offered (drop k ms) (drop k ss) ≡ true
+offered_all ms ss k h l = ap₂ all_offered (drop_all k ms h) (drop_all k ss l)
 
 -- as many are tested pair by pair
 pub offered_zip : (ms : List Menu) (ss : List ℕ) → length ms ≡ length ss → list_all (λ p. bit p.0.map p.1) (zip ms ss) ≡ all_offered ms ss

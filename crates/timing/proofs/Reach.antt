@@ -1,13 +1,14 @@
 -- Where the nets into a module come from, and how large an arrival can be. Assumes nothing.
-use Rattle.std.proofs.Common.{◌≡◌, ℕ, suc, ◌+◌, ◌-◌, ◌<◌, ◌≤◌, true, List, [], ◌∷◌, ◌++◌, map, length, get_or, take, drop, set, replicate, sym, refl, ap, ◌∙◌, ap₂, ⊎_elim, add-one, arith}
+use Rattle.std.proofs.Common.{◌≡◌, ℕ, suc, ◌+◌, ◌-◌, ◌*◌, ◌<◌, ◌≤◌, true, List, [], ◌∷◌, ◌++◌, map, length, get_or, take, drop, set, replicate, fold, sym, refl, ap, ◌∙◌, ap₂, ⊎_elim, add-one, arith, below_more}
 use Rattle.netlist.specs.FanIn.{fan_in}
 use Rattle.netlist.specs.Netlist.{Netlist, lawful}
 use Rattle.netlist.specs.Rules.{net}
 use Rattle.netlist.proofs.Words.{keeps_rules}
 use Rattle.std.proofs.ByRecursion.{All-from_get_or}
-use Rattle.std.proofs.lemmas.List.{take_all, get_or_append_left, set_at, append_assoc}
+use Rattle.std.proofs.lemmas.List.{map_more, take_all, get_or_append_left, set_at, append_assoc, get_or-set_other, get_or-set_same, length-append, length-replicate}
+use Rattle.std.proofs.lemmas.List.Sums.{fold_push}
 use Rattle.std.specs.List.{AllByRecursion as All}
-use Rattle.timing.specs.Arrivals.{KeepsOne, Into, kept, over_net, done, arrivals}
+use Rattle.timing.specs.Arrivals.{KeepsOne, Into, InReach, kept, over_net, done, arrivals}
 use Rattle.timing.specs.Paths.{Timed, Model, timed_by}
 use Rattle.timing.proofs.Arrived.{length_arrivals}
 use Rattle.timing.proofs.FanIns.{fan_in_leads}
@@ -47,6 +48,9 @@ module _ (n : Netlist) (ok : lawful n ≡ true) where
             let l : (net n i).driver < length (arrivals keep g m) = rw (length_arrivals keep g m) (into_ends m i h).0 in
             ap (λ t. t + d.on_net i) (ap (λ (ts : List ℕ). get_or ts (net n i).driver 0) same ∙ get_or_append_left (arrivals keep g m) (replicate (64 - m) 0) 0 (net n i).driver l)
 
+    pub table_long : m ≤ 64 → length known ≡ 64
+    table_long h = ap length same ∙ length-append (arrivals keep g m) (replicate (64 - m) 0) ∙ (let a = length_arrivals keep g m in let b = length-replicate {A = ℕ} (64 - m) 0 in omega arith)
+
     pub arrivals_more : (t : ℕ) → m < 64 → t ≡ done keep g known m → set known m t ≡ arrivals keep g (m + 1) ++ replicate (64 - (m + 1)) 0
     arrivals_more t h e =
         let xs = arrivals keep g m in
@@ -58,9 +62,19 @@ module _ (n : Netlist) (ok : lawful n ≡ true) where
         ∙ ap (λ v. (xs ++ v ∷ []) ++ zs) (e ∙ done_known)
         ∙ ap (λ k. arrivals keep g k ++ zs) (sym (add-one m))
 
+-- what is written at m keeps the reach
+pub reach_more : (known : List ℕ) (m t : ℕ) → m < length known → InReach m known → t ≤ 40000 * (m + 1) → InReach (m + 1) (set known m t)
+reach_more known m t l h b = below_more (λ k. get_or (set known m t) k 0 ≤ 40000 * (k + 1)) m
+    (λ k j. let e = get_or-set_other known m k t 0 (λ q. omega arith) in let r = h k j in omega arith)
+    (let e = get_or-set_same known m t 0 l in omega arith)
+
 -- one of two that are small is small
 pub keep_small : (keep : ℕ → ℕ → ℕ) → KeepsOne keep → (x y b : ℕ) → x ≤ b → y ≤ b → keep x y ≤ b
 keep_small keep way x y b h k = ⊎_elim (λ e. omega arith) (λ e. omega arith) (way.one_of_two x y)
+
+-- one more arrival is kept
+pub keep_more : (keep : ℕ → ℕ → ℕ) (over : ℕ → ℕ) (t : ℕ) (is : List ℕ) (k : ℕ) → k < length is → fold keep t (map over (take (k + 1) is)) ≡ keep (fold keep t (map over (take k is))) (over (get_or is k 0))
+keep_more keep over t is k h = ap (fold keep t) (map_more over is k 0 h) ∙ fold_push keep t (map over (take k is)) (over (get_or is k 0))
 
 -- a list that is not empty, as a slice pattern takes it apart
 pub head_and_rest : (xs : List ℕ) → 0 < length xs → xs ≡ get_or xs 0 0 ∷ take (length xs - 1) (drop 1 xs)

@@ -19,6 +19,9 @@ pub sum_below_same : (k : ℕ) (f g : ℕ → ℕ) → ((i : ℕ) → i < k → 
 sum_below_same zero f g h = refl
 sum_below_same (suc k) f g h = ap₂ (λ x y. x + y) (sum_below_same k f g (λ i l. h i (omega arith))) (h k (omega arith))
 
+pub sum_below_more : (k : ℕ) (f : ℕ → ℕ) → sum_below (k + 1) f ≡ sum_below k f + f k
+sum_below_more k f = ap (λ i. sum_below i f) (add-one k)
+
 pub sum_below_bound : (k : ℕ) (f : ℕ → ℕ) (b : ℕ) → ((i : ℕ) → f i ≤ b) → sum_below k f ≤ k * b
 sum_below_bound zero f b h = omega arith
 sum_below_bound (suc k) f b h = let l = sum_below_bound k f b h in let m = h k in omega arith

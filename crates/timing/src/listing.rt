@@ -7,8 +7,10 @@ pub fn listed_before(a: &[u8], b: &[u8]) -> bool
     ensures value { result ≡ before a.now b.now }
     ensures words { IsTrue result ↔ Before a.now b.now }
 {
-    a.iter()
-        .zip(b)
+    let common = a.len().min(b.len());
+    a[..common]
+        .iter()
+        .zip(&b[..common])
         .find(|(x, y)| x != y)
         .is_some_and(|(x, y)| x < y)
 }

@@ -9,7 +9,7 @@ use Rattle.netlist.specs.Netlist.{Netlist, lawful, modules, supplies_lawful, men
 use Rattle.netlist.specs.Slots.{bit, Menu, Supplies}
 use Rattle.netlist.proofs.Kept.{kept, kept_supplies, kept_menu}
 use Rattle.record.specs.Fields.{spelled}
-use Rattle.record.specs.Record.{spelled_unless_zero, slot_bytes, supplies_bytes, choice_bytes, menu_bytes, net_bytes, all_bytes, record_of}
+use Rattle.record.specs.Record.{spelled_unless_zero, head_bytes, slot_bytes, supplies_bytes, choice_bytes, menu_bytes, net_bytes, all_bytes, record_of}
 use Rattle.record.proofs.Spelled.{length-spelled}
 
 optional_most : (w n : ℕ) → length (spelled_unless_zero w n) ≤ w
@@ -32,6 +32,9 @@ module _ {T : Type 0} (spell : T → List ℕ) (w : ℕ) where
       let p = and_parts (test x) (list_all test xs) t in
       let m = mul-suc w (length xs) in
       simp length-append (omega (arith, h x p.0, all_most test h xs p.1))
+
+head_most : (n : Netlist) → length (head_bytes n) ≤ 12
+head_most n = simp length-append (omega (arith, optional_most))
 
 supplies_most : (s : Supplies) → supplies_lawful s ≡ true → length (supplies_bytes s) ≤ 17
 supplies_most s h =

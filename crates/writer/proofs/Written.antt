@@ -14,7 +14,11 @@ most d = record_most (view d) d.ok
 pub read_back : (d : Design) → reads_as (record_of (view d)) ≡ Ok (view d)
 read_back d = writes_back (view d) d.ok
 
-pub one_record : (d : Design) (other : Netlist) → lawful other ≡ true → record_of other ≡ record_of (view d) → other ≡ view d
-one_record d other l e =
-    let same : ◌≡◌ {A = Result Netlist RecordFault} (Ok other) (Ok (view d)) = sym (writes_back other l) ∙ (ap reads_as e ∙ read_back d) in
+-- two designs with one record are one design
+pub no_other : (n : Netlist) → lawful n ≡ true → (other : Netlist) → lawful other ≡ true → record_of other ≡ record_of n → other ≡ n
+no_other n l other k e =
+    let same : ◌≡◌ {A = Result Netlist RecordFault} (Ok other) (Ok n) = sym (writes_back other k) ∙ (ap reads_as e ∙ writes_back n l) in
     cc
+
+pub one_record : (d : Design) (other : Netlist) → lawful other ≡ true → record_of other ≡ record_of (view d) → other ≡ view d
+one_record d other l e = no_other (view d) d.ok other l e

@@ -1,5 +1,5 @@
 // The page that a record is written on, and how a number is put at its end.
-ghost use Rattle.std.specs.Prelude.{◌≡◌, ◌≤◌, ◌++◌};
+ghost use Rattle.std.specs.Prelude.{◌≡◌, ◌≤◌, ◌++◌, length};
 ghost use Rattle.record.specs.Fields.{spelled};
 ghost use Rattle.record.specs.Record.{bit_unless_zero, spelled_unless_zero};
 ghost use Rattle.writer.specs.Pages.{HasRoom};
@@ -10,6 +10,14 @@ use arrayvec::ArrayVec;
 const MOST: usize = 4445;
 
 pub(crate) type Page = ArrayVec<u8, MOST>;
+
+// What stands on a page: no more than the longest record.
+pub(crate) fn written(page: &Page) -> &[u8]
+    ensures value { result.now ≡ page.now.items }
+    ensures most { length result.now ≤ 4445 }
+{
+    page.as_slice()
+}
 
 // The lowest `width` bytes of `n`, most significant first.
 pub(crate) fn put_number(page: &mut Page, width: usize, n: u32)

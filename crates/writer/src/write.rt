@@ -8,7 +8,7 @@ ghost use Rattle.record.specs.Record.{bit_unless_zero, head_bytes, record_of, re
 ghost use Rattle.writer.specs.Writing.{write_rules, with_record};
 
 use crate::entry::{Entry, put_all};
-use crate::page::{Page, put_number, put_optional, weight};
+use crate::page::{Page, put_number, put_optional, weight, written};
 use netlist::design::Design;
 use netlist::parts::Shifter;
 use netlist::refusal::Refusal;
@@ -58,7 +58,7 @@ pub fn write(design: &Design, out: &mut [u8]) -> Result<usize, Refusal>
 {
     let mut page = Page::new();
     design.put(&mut page);
-    let record = page.as_slice();
+    let record = written(&page);
     let n = record.len();
     if out.len() < n {
         return Err(Refusal::ShortBuffer);

@@ -30,15 +30,15 @@ impl CriticalPath {
 #[derive(Drop)]
 struct Tracer<'a, 'd, 's> {
     assignment: &'a Assignment<'d, 's>,
-    arrivals: [u32; 64],
-    ghost known: { arrivals ≡ latest (planned assignment.now) (named assignment.now) ++ replicate (64 - modules (planned assignment.now)) 0 },
+    arrivals: &'a [u32; 64],
+    ghost known: { arrivals.now ≡ latest (planned assignment.now) (named assignment.now) ++ replicate (64 - modules (planned assignment.now)) 0 },
 }
 
 impl Tracer<'_, '_, '_> {
     // Whether the arrival at a module is the one over this net.
     fn comes_over(&self, m: u32, i: u32) -> bool
         requires { Into (planned self.now.assignment.now) m i }
-        ensures { result ≡ (over_net (timed (planned self.now.assignment.now) (named self.now.assignment.now)) self.now.arrivals i + module_delay (planned self.now.assignment.now) (named self.now.assignment.now) m == slice_index self.now.arrivals m) }
+        ensures { result ≡ (over_net (timed (planned self.now.assignment.now) (named self.now.assignment.now)) self.now.arrivals.now i + module_delay (planned self.now.assignment.now) (named self.now.assignment.now) m == slice_index self.now.arrivals.now m) }
     {
         let driver = self.assignment.design().nets()[i as usize].driver;
         let before = u64::from(self.arrivals[driver as usize]);
@@ -49,7 +49,7 @@ impl Tracer<'_, '_, '_> {
     // The net over which the arrival at a module comes; none where no net leads to it.
     fn last_net(&self, m: u32) -> Option<u32>
         requires { m < modules (planned self.now.assignment.now) }
-        ensures { MatchOption result (fan_in (planned self.now.assignment.now) m ≡ []) (ComesOver (planned self.now.assignment.now) (named self.now.assignment.now) self.now.arrivals m) }
+        ensures { MatchOption result (fan_in (planned self.now.assignment.now) m ≡ []) (ComesOver (planned self.now.assignment.now) (named self.now.assignment.now) self.now.arrivals.now m) }
     {
         let nets = self.assignment.design().fan_in(m);
         nets.iter().copied().find(
@@ -64,7 +64,7 @@ impl Tracer<'_, '_, '_> {
         requires { end < modules (planned self.now.assignment.now) }
         ensures end { result.end ≡ end }
         ensures path { PathTo (timed (planned self.now.assignment.now) (named self.now.assignment.now)) end (steps result) }
-        ensures delay { path_delay (timed (planned self.now.assignment.now) (named self.now.assignment.now)) end (steps result) ≡ slice_index self.now.arrivals end }
+        ensures delay { path_delay (timed (planned self.now.assignment.now) (named self.now.assignment.now)) end (steps result) ≡ slice_index self.now.arrivals.now end }
     {
         let mut nets = [0u32; 64];
         let mut count: usize = 0;
@@ -92,12 +92,15 @@ pub fn critical_path(assignment: &Assignment<'_, '_>) -> Option<CriticalPath>
     ensures path { IfSome result (λ p. PathTo (timed (planned assignment.now) (named assignment.now)) p.end (steps p)) }
     ensures longest { IfSome result (λ p. Longest (timed (planned assignment.now) (named assignment.now)) (path_delay (timed (planned assignment.now) (named assignment.now)) p.end (steps p))) }
 {
-    let arrivals = assignment.arrivals();
     let modules = assignment.design().menus().len();
+    if modules == 0 {
+        return None;
+    }
+    let arrivals = assignment.arrivals();
     let end = latest_module(&arrivals[0..modules])?;
     let tracer = Tracer {
         assignment,
-        arrivals,
+        arrivals: &arrivals,
     };
     Some(tracer.trace(end as u32))
 }

@@ -60,8 +60,7 @@ impl Assignment<'_, '_> {
     pub(super) fn shifter(&self, net: u32) -> Option<Shifter>
         ensures { result ≡ (if needs_shifter (planned self.now) (named self.now) net then Some (planned self.now).terms.shifter else None) }
     {
-        let shifter = self.design.terms().shifter;
-        self.needs_shifter(net).then_some(shifter)
+        self.needs_shifter(net).then(|| self.design.terms().shifter)
     }
 
     // The shifter delay where a net needs a shifter, else 0.

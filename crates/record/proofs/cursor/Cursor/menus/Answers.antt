@@ -23,7 +23,7 @@ loop-m-preserved c =
     let z = c.in-Ok.ensures in
     let b = z.same ∙ v.0 in
     let done = rw (b, z.place) at (reading_done _ _ _ w.1 (omega arith)) in
-    let menu = menu_whole c.args.supplies c.args.self.now.bytes.now c.loop-m.self.at c.in-Ok.map c.loop-field.choices c.loop-field.self.at (rw v.0 at (sym z.value)) done in
+    let menu = menu_whole c.args.supplies c.args.self.now.bytes.now c.loop-m.cursor.at c.in-Ok.map c.loop-field.choices c.loop-field.cursor.at (rw v.0 at (sym z.value)) done in
     (w.0 ∙ b, gathering_reads _ v.1 (omega arith) menu)
 
 pub returns-in_err-read-clause-value : goal.returns-in_err-read-clause-value
@@ -37,7 +37,7 @@ returns-in_err-read-clause-value c =
       | then-loop-m-test+in-Err w ↦
           let is = w.read-is in
           let g : ◌≡◌ {A = ℕ × BlockFault} c.in_err-read.field-0.0 (c.args.first + c.loop-m.m, w.in-Err.fault) = cc in
-          let f = menu_unmapped c.args.supplies bs c.loop-m.self.at w.in-Err.fault (rw v.0 at (sym w.in-Err.ensures.value)) in
+          let f = menu_unmapped c.args.supplies bs c.loop-m.cursor.at w.in-Err.fault (rw v.0 at (sym w.in-Err.ensures.value)) in
           rw g (sym (gathering_refused _ v.1 (omega arith) f))
       | then-loop-m-test+in-Ok+then-loop-field-test+in-Err-choice w ↦
           let is = w.read-is in
@@ -47,7 +47,7 @@ returns-in_err-read-clause-value c =
           let fault = w.in-Err-choice.fault in
           let g : ◌≡◌ {A = ℕ × BlockFault} c.in_err-read.field-0.0 (c.args.first + c.loop-m.m, Field fault) = cc in
           let no = rw (b, z.place) at (reading_refused _ _ _ u.1 (omega arith) (rw u.0 at (sym w.in-Err-choice.ensures.value))) in
-          let f = menu_refused c.args.supplies bs c.loop-m.self.at w.in-Ok.map fault (rw v.0 at (sym z.value)) no in
+          let f = menu_refused c.args.supplies bs c.loop-m.cursor.at w.in-Ok.map fault (rw v.0 at (sym z.value)) no in
           rw g (sym (gathering_refused _ v.1 (omega arith) f))
     ])
 
@@ -55,7 +55,7 @@ pub returns-clause-value : goal.returns-clause-value
 returns-clause-value c =
     let was = c.in_ok-read.was in
     elim c.loop-m-test.branch [
-      | else-loop-m-test w ↦ rw (w.places-is, w.self-is) (sym (gathering_done _ c.loop-m.invariant.1 (omega arith)))
+      | else-loop-m-test w ↦ rw (w.places-is, w.cursor-is) (sym (gathering_done _ c.loop-m.invariant.1 (omega arith)))
       | then-loop-m-test+in-Err w ↦ let g = w.read-is in cc
       | then-loop-m-test+in-Ok+then-loop-field-test+in-Err-choice w ↦ let g = w.read-is in cc
     ]

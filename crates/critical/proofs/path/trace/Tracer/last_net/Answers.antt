@@ -24,7 +24,7 @@ returns c =
     let x = c.args.self.now.assignment.now in
     let n = planned x in
     let m = c.args.m in
-    let known = c.args.self.now.arrivals in
+    let known = c.args.self.now.arrivals.now in
     let nets : c.copied.result.iter.rest.now ≡ fan_in n m = search rules in
     let found = first_from_find c.find.new.self _ c.find.result
     (λ i. over_net (timed n (named x)) known i + module_delay n (named x) m ≡ get_or known m 0)

@@ -21,7 +21,7 @@ pub loop-i-preserved : goal.loop-i-preserved
 loop-i-preserved c =
     let x = c.args.self.now.assignment.now in
     let n = planned x in
-    let known = c.args.self.now.arrivals in
+    let known = c.args.self.now.arrivals.now in
     let i = c.in-Some.i in
     let kept = c.loop-i.invariant in
     let inside = kept.inside in
@@ -37,5 +37,5 @@ loop-i-preserved c =
 pub returns : goal.returns
 returns c =
     let x = c.args.self.now.assignment.now in
-    let whole = traces_whole (planned x) x.design.now.ok (named x) c.args.self.now.arrivals _ c.args.self.now.known c.args.end c.loop-i.at (take c.loop-i.count c.loop-i.nets) c.loop-i.invariant.inside c.in_default.ensures c.loop-i.invariant.leads in
+    let whole = traces_whole (planned x) x.design.now.ok (named x) c.args.self.now.arrivals.now _ c.args.self.now.known c.args.end c.loop-i.at (take c.loop-i.count c.loop-i.nets) c.loop-i.invariant.inside c.in_default.ensures c.loop-i.invariant.leads in
     record { end = refl; path = whole.0; delay = whole.1 }

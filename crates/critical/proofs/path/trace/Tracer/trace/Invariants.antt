@@ -10,7 +10,7 @@ invariant-loop-i l =
       long : length l.nets ≡ 64;
       inside : l.at < modules (planned l.self.assignment.now);
       room : l.count + l.at ≤ l.end;
-      leads : Traces (planned l.self.assignment.now) (named l.self.assignment.now) l.self.arrivals l.end (take l.count l.nets) l.at;
+      leads : Traces (planned l.self.assignment.now) (named l.self.assignment.now) l.self.arrivals.now l.end (take l.count l.nets) l.at;
     }
 
 abbrev pub decreases-loop-i : goal.decreases-loop-i
